@@ -1,0 +1,5 @@
+pub mod Bits
+pub mod Comparison
+pub mod Bitmap
+pub mod Answer
+pub mod Horizontal

@@ -1,0 +1,36 @@
+use Prim.Native.Nat.{ℕ, _-_}
+use mathlib.Core.Path.{_≡_, refl, sym, ap, _∙_}
+use lib.ListN.{length, take, drop, length-drop}
+use lib.Seq.{take-all}
+use Rattle.rules.specs.Bits.{number}
+use Rattle.words.specs.Bytes.{number-end}
+use native.Mathlib.Omega.{arith}
+use borrow.Author.Needs.{needs}
+use Rattle.words.proofs.loads.load_any.Statement.{statement}
+use Rattle.words.proofs.loads.load_any.Tie as tie
+
+returns : tie.Need-returns
+returns c =
+    let a = c .before .before .args in
+    sym (ap number (take-all 8 (drop (a .at) (a .s .now)) (omega (arith, length-drop (a .at) (a .s .now)))) ∙ number-end (a .s .now) (a .at) (omega arith))
+
+sub-if2 : tie.Need-sub-if2
+sub-if2 c = search needs
+
+load-tail-requires : tie.Need-load-tail-requires
+load-tail-requires c κs = search needs
+
+returns-2 : tie.Need-returns-2
+returns-2 c =
+    let a = c .before .before .before .before .args in
+    c .load-tail .ensures ∙ ap number (sym (take-all 8 (drop (a .at) (a .s .now)) (omega (arith, length-drop (a .at) (a .s .now)))))
+
+load8-requires : tie.Need-load8-requires
+load8-requires c κs = search needs
+
+returns-3 : tie.Need-returns-3
+returns-3 c = search needs
+
+pub load-any-spec : {M : Type 1} → statement M
+load-any-spec =
+    tie.close (tie.spec returns sub-if2 load-tail-requires returns-2 load8-requires returns-3)
