@@ -8,24 +8,36 @@ use Rattle.rules.specs.Bits.{ceil, put}
 use Rattle.rules.specs.Bitmap.{bitmap, tally}
 use Rattle.rules.specs.declared.Answer.{Answer}
 
--- a listed fault that is there gives its code, else the next in the list is looked at
-abbrev pub faulty : Bool → ℕ → ℕ → ℕ
-faulty true code next = code
-faulty false code next = next
+-- a fault that is there gives its code, else 0
+abbrev pub faulty : Bool → ℕ → ℕ
+faulty true code = code
+faulty false code = 0
 
--- 1 and 2: the limits of columns of unsigned entries
-unfoldable pub limitFault : ℕ → ℕ → ℕ → ℕ
-limitFault w n next =
-    faulty (ltb 32 w) 1
-    (faulty (ltb 16384 n) 2 next)
+infixr 10 _then_
+
+-- the first of two codes that is not 0: the order in which faults are looked for
+unfoldable pub _then_ : ℕ → ℕ → ℕ
+zero then next = next
+suc code then next = suc code
+
+-- 1, 2: the limits of columns of unsigned entries
+unfoldable pub limitFault : ℕ → ℕ → ℕ
+limitFault w n = faulty (ltb 32 w) 1 then faulty (ltb 16384 n) 2
 
 -- 3
-abbrev pub operatorFault : ℕ → ℕ → ℕ
-operatorFault op next = faulty (ltb 7 op) 3 next
+unfoldable pub operatorFault : ℕ → ℕ
+operatorFault op = faulty (ltb 7 op) 3
 
 -- 4: the output has fewer places than would be written
-abbrev pub roomFault : ℕ → ℕ → ℕ → ℕ
-roomFault room need next = faulty (ltb room need) 4 next
+unfoldable pub roomFault : ℕ → ℕ → ℕ
+roomFault places need = faulty (ltb places need) 4
+
+-- acceptance with its number, and a refusal, whose number is 0
+abbrev pub accepted : ℕ → Answer
+accepted n = record { code = 0; number = n }
+
+abbrev pub refusal : ℕ → Answer
+refusal code = record { code = code; number = 0 }
 
 -- what a call gives back, and what the lent places then hold
 pub data Outcome (A : Type 0) : Type 0 where
@@ -33,8 +45,8 @@ pub data Outcome (A : Type 0) : Type 0 where
 
 -- code 0 writes from the first place on and gives the number; every other code gives 0 and changes nothing
 unfoldable pub answered : {A : Type 0} → ℕ → ℕ → List A → List A → Outcome A
-answered zero n wrote before = outcome (record { code = 0; number = n }) (put before 0 wrote)
-answered (suc code) n wrote before = outcome (record { code = suc code; number = 0 }) before
+answered zero n wrote before = outcome (accepted n) (put before 0 wrote)
+answered (suc code) n wrote before = outcome (refusal (suc code)) before
 
 -- a scan of n entries: those that pass as a bitmap, and how many they are
 abbrev pub scanned : ℕ → ℕ → (ℕ → Bool) → List ℕ → Outcome ℕ

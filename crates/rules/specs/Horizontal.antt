@@ -6,7 +6,7 @@ use lib.IntN.{ℤ, pos}
 use lib.Dec.{ltb, leb, eqb}
 use lib.ListN.{length}
 use Rattle.rules.specs.Bits.{Order, field, entry, entryByte, ceil, tabulate}
-use Rattle.rules.specs.Answer.{faulty, limitFault, operatorFault, roomFault, Outcome, scanned, written}
+use Rattle.rules.specs.Answer.{faulty, _then_, limitFault, operatorFault, roomFault, Outcome, scanned, written}
 use Rattle.rules.specs.Comparison.{holds}
 
 -- the page has exactly ceil(n × w / 8) bytes
@@ -21,21 +21,21 @@ unused o page w n = field o page (n * w) (8 * pageBytes w n - n * w)
 unfoldable pub pageFault : Order → List ℕ → ℕ → ℕ → ℕ
 pageFault o page w n =
     faulty (ltb (length page) (pageBytes w n)) 5
-    (faulty (ltb (pageBytes w n) (length page)) 6
-    (faulty (ltb 0 (unused o page w n)) 7 0))
+    then faulty (ltb (pageBytes w n) (length page)) 6
+    then faulty (ltb 0 (unused o page w n)) 7
 
 -- 1, 2, 3, 4, 5, 6, 7
 unfoldable pub scan : Order → List ℕ → ℕ → ℕ → ℕ → ℤ → ℤ → List ℕ → Outcome ℕ
 scan o page w n op a b before =
     scanned
-    (limitFault w n (operatorFault op (roomFault (length before) (ceil n 8) (pageFault o page w n))))
+    (limitFault w n then operatorFault op then roomFault (length before) (ceil n 8) then pageFault o page w n)
     n (λ i. holds op a b (pos (entry o page w i))) before
 
 -- 1, 2, 4, 5, 6, 7
 unfoldable pub unpack : Order → List ℕ → ℕ → ℕ → List ℕ → Outcome ℕ
 unpack o page w n before =
     written
-    (limitFault w n (roomFault (length before) n (pageFault o page w n)))
+    (limitFault w n then roomFault (length before) n then pageFault o page w n)
     (tabulate n (entry o page w)) before
 
 -- is some entry not below 2^w
@@ -51,5 +51,5 @@ packed o w entries = tabulate (pageBytes w (length entries)) (entryByte o w entr
 unfoldable pub pack : Order → List ℕ → ℕ → List ℕ → Outcome ℕ
 pack o entries w before =
     written
-    (limitFault w (length entries) (faulty (anyLarge w entries) 8 (roomFault (length before) (pageBytes w (length entries)) 0)))
+    (limitFault w (length entries) then faulty (anyLarge w entries) 8 then roomFault (length before) (pageBytes w (length entries)))
     (packed o w entries) before

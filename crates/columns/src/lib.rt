@@ -1,0 +1,37 @@
+// The column kinds: the limit numbers belong to them, and every argument check asks them here.
+ghost use mathlib.Core.Path.{_≡_};
+ghost use Rattle.rules.specs.Answer.{limitFault};
+
+// Columns of unsigned entries, whose width is an argument: horizontal and vertical pages, run streams.
+pub struct Unsigned {
+    pub width: u32,
+    pub entries: usize,
+}
+
+impl Unsigned {
+    pub const MAX_WIDTH: u32 = 32;
+
+    pub const MAX_ENTRIES: usize = 16384;
+
+    pub fn new(width: u32, entries: usize) -> Self
+        ensures { λ r. ⌜ (r .width ≡ width) × (r .entries ≡ entries) ⌝ }
+    {
+        Self {
+            width: width,
+            entries: entries,
+        }
+    }
+
+    // 1 or 2, or 0 where the column keeps to the limits.
+    pub fn fault(self) -> u32
+        ensures { λ r. ⌜ r ≡ limitFault (self .width) (self .entries) ⌝ }
+    {
+        if Self::MAX_WIDTH < self.width {
+            return 1;
+        }
+        if Self::MAX_ENTRIES < self.entries {
+            return 2;
+        }
+        0
+    }
+}
