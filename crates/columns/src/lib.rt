@@ -35,3 +35,10 @@ impl Unsigned {
         0
     }
 }
+
+// The same of a width and a count that a caller gave.
+pub fn unsigned_fault(width: u32, n: usize) -> u32
+    ensures { λ r. ⌜ r ≡ limitFault width n ⌝ }
+{
+    Unsigned::new(width, n).fault()
+}

@@ -14,7 +14,6 @@ faulty true code = code
 faulty false code = 0
 
 infixr 10 _then_
-
 -- the first of two codes that is not 0: the order in which faults are looked for
 unfoldable pub _then_ : ℕ → ℕ → ℕ
 zero then next = next

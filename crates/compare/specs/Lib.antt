@@ -1,0 +1,9 @@
+pub mod Band
+pub mod Range
+pub mod Tests
+pub mod Operators
+pub mod Inside
+pub mod Cuts
+pub mod Ranges
+pub mod Meanings
+pub mod Faults

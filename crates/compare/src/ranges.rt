@@ -1,0 +1,64 @@
+// The entries of an unsigned column that a band selects.
+ghost use mathlib.Core.Path.{_≡_};
+ghost use Rattle.compare.specs.Range.{cutOf, nextOf, flipOf, rangeOf};
+use crate::bands::Band;
+
+// From low to low + span, or where flip is 255 all others.
+pub struct Range {
+    pub low: u32,
+    pub span: u32,
+    pub flip: u8,
+}
+
+// How many of the numbers below 2^32 are below z.
+fn cut(z: i64) -> u64
+    ensures { λ r. ⌜ r ≡ cutOf z ⌝ }
+{
+    if z < 0 {
+        return 0;
+    }
+    if z < 4294967296 {
+        return z as u64;
+    }
+    4294967296
+}
+
+// How many of the numbers below 2^32 are at most z.
+fn next(z: i64) -> u64
+    ensures { λ r. ⌜ r ≡ nextOf z ⌝ }
+{
+    if z < 0 {
+        return 0;
+    }
+    let below = cut(z);
+    if below < 4294967296 {
+        return below + 1;
+    }
+    below
+}
+
+fn flip_of(outside: bool) -> u8
+    ensures { λ r. ⌜ r ≡ flipOf outside ⌝ }
+{
+    if outside { 255 } else { 0 }
+}
+
+// Where the band holds no entry, the range is the whole column with the flip turned.
+pub fn range_of(band: Band) -> Range
+    ensures { λ r. ⌜ r ≡ rangeOf band ⌝ }
+{
+    let from = cut(band.low);
+    let to = next(band.high);
+    if from < to {
+        return Range {
+            low: from as u32,
+            span: (to - from - 1) as u32,
+            flip: flip_of(band.outside),
+        };
+    }
+    Range {
+        low: 0,
+        span: 4294967295,
+        flip: flip_of(!band.outside),
+    }
+}

@@ -1,0 +1,31 @@
+// A list of entries, into a page.
+ghost use mathlib.Core.Path.{_≡_};
+ghost use Rattle.rules.specs.Bits.Order.{lowFirst};
+ghost use Rattle.rules.specs.Answer.Outcome.{outcome};
+ghost use Rattle.rules.specs.Horizontal as Horizontal;
+use answers::done;
+use answers::refused;
+use answers::room_fault;
+use columns::unsigned_fault;
+use packing::judging::any_large;
+use rules::Answer;
+
+pub fn pack(entries: &[u32], width: u32, page: &mut [u8]) -> Answer
+    ensures { λ r. ⌜ outcome r (now (page .exit)) ≡ Horizontal.pack lowFirst (now (entries .entry)) width (now (page .entry)) ⌝ }
+{
+    let n = entries.len();
+    let limits = unsigned_fault(width, n);
+    if limits != 0 {
+        return refused(limits);
+    }
+    if any_large(entries, width) {
+        return refused(8);
+    }
+    let bytes = (n * width as usize + 7) / 8;
+    let room = room_fault(page.len(), bytes);
+    if room != 0 {
+        return refused(room);
+    }
+    packing::laying::pack(entries, width, page);
+    done(bytes as u32)
+}

@@ -1,0 +1,78 @@
+-- `packing::unpacking::unpack` meets its contract: each turn fills one place more.
+use mathlib.Core.Path.{_≡_}
+use Prim.Native.Nat.{_-_, _≤_}
+use native.Mathlib.Nat.{mul-le-mul}
+use native.Mathlib.Omega.{arith}
+use lib.ListN.{length, length-set}
+use borrow.Author.Needs.{needs}
+use Rattle.rules.specs.Bits.{entry, put, tabulate}
+use Rattle.rules.specs.Bits.Order.{lowFirst}
+use Rattle.words.specs.Puts.{put-none}
+use Rattle.packing.specs.Tabulated.{put-tabulate}
+use Rattle.packing.proofs.unpacking.unpack.Statement.{statement}
+use Rattle.packing.proofs.unpacking.unpack.Tie as tie
+
+abbrev Inv-loop : tie.InvT-loop
+Inv-loop page w n entries₀ i₀ entries i = (i ≤ n) × (length entries ≡ length entries₀) × (entries ≡ put entries₀ 0 (tabulate i (entry lowFirst page w)))
+
+abbrev μ-loop : tie.MeasureT-loop
+μ-loop page w n entries₀ i₀ entries i = n - i
+
+loop-holds : tie.Need-loop-holds Inv-loop μ-loop
+unfolding tabulate
+loop-holds c = (omega arith, omega arith, put-none (c .before .before .args .entries .now) 0)
+
+mul-entry-any : tie.Need-mul-entry-any Inv-loop μ-loop
+mul-entry-any c =
+    let a = c .before .before .before .before .args in
+    let l = c .before .loop in
+    omega (arith, mul-le-mul {n₁ = l .i} {m₁ = a .w} {n₂ = 16384} {m₂ = 32} (omega arith) (omega arith))
+
+entry-any-requires : tie.Need-entry-any-requires Inv-loop μ-loop
+entry-any-requires c κs = search needs
+
+mul-entries : tie.Need-mul-entries Inv-loop μ-loop
+mul-entries c = search needs
+
+slice-write-entries : tie.Need-slice-write-entries Inv-loop μ-loop
+slice-write-entries c = search needs
+
+add-i : tie.Need-add-i Inv-loop μ-loop
+add-i c = search needs
+
+loop-less : tie.Need-loop-less Inv-loop μ-loop
+loop-less c = search needs
+
+loop-again : tie.Need-loop-again Inv-loop μ-loop
+loop-again c =
+    let a = c .before .before .before .before .before .args in
+    let l = c .before .before .loop in (
+      omega arith,
+      simp length-set (l .inv .1),
+      rw (l .inv .2, c .entry-any .ensures) (put-tabulate (a .entries .now) (l .i) (entry lowFirst (a .page .now) (a .w)) (omega arith)),
+    )
+
+same-length : tie.Need-same-length Inv-loop μ-loop
+same-length c = search needs
+
+returns : tie.Need-returns Inv-loop μ-loop
+returns c =
+    let all : c .before .loop .i ≡ c .before .before .before .before .args .n = omega arith in
+    rw (← all) (c .before .loop .inv .2)
+
+pub unpack-spec : {M : Type 1} → statement M
+unpack-spec =
+    tie.close
+    (tie.spec
+    Inv-loop
+    μ-loop
+    loop-holds
+    mul-entry-any
+    entry-any-requires
+    mul-entries
+    slice-write-entries
+    add-i
+    loop-less
+    loop-again
+    same-length
+    returns)

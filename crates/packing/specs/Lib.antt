@@ -1,0 +1,5 @@
+pub mod Tabulated
+pub mod Large
+pub mod Digits
+pub mod Packed
+pub mod RoundTrip

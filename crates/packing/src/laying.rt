@@ -1,0 +1,24 @@
+// Entries into a page.
+ghost use mathlib.Core.Path.{_≡_};
+ghost use mathlib.Core.Bool.{false};
+ghost use Prim.Native.Nat.{_≤_};
+ghost use lib.ListN.{length};
+ghost use Rattle.rules.specs.Bits.{put};
+ghost use Rattle.rules.specs.Bits.Order.{lowFirst};
+ghost use Rattle.rules.specs.Horizontal.{anyLarge, packed, pageBytes};
+use words::bits::append_at;
+
+// The page that the entries make, into its first bytes; the last byte's unused bits are 0.
+pub fn pack(entries: &[u32], w: u32, page: &mut [u8])
+    requires { ⌜ (w ≤ 32) × (length (now entries) ≤ 16384) × (anyLarge w (now entries) ≡ false) × (pageBytes w (length (now entries)) ≤ length (now page)) ⌝ }
+    ensures { λ _. ⌜ now (page .exit) ≡ put (now (page .entry)) 0 (packed lowFirst w (now (entries .entry))) ⌝ }
+{
+    if w == 0 {
+        return;
+    }
+    let mut i: usize = 0;
+    while i < entries.len() {
+        append_at(page, i * w as usize, entries[i] as u64, w);
+        i += 1;
+    }
+}

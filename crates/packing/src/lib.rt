@@ -1,0 +1,4 @@
+// Entries of one width laid end to end in a page: into places, judged, and back. Their laws stand in specs/.
+pub mod judging;
+pub mod laying;
+pub mod unpacking;

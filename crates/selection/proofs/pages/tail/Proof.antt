@@ -1,0 +1,44 @@
+-- `selection::pages::tail` meets its contract: zeros behind the page's rest change no entry.
+use mathlib.Core.Path.{ap, _∙_}
+use mathlib.Core.List.{List}
+use Prim.Native.Nat.{ℕ, _*_}
+use lib.ListN.{drop}
+use borrow.Author.Needs.{needs}
+use Rattle.rules.specs.Bits.{put}
+use Rattle.selection.specs.Selected.{selected, ranging}
+use Rattle.selection.specs.Pages.{selected-padded}
+use Rattle.selection.proofs.pages.tail.Statement.{statement}
+use Rattle.selection.proofs.pages.tail.Tie as tie
+
+slice-aggregate-copy : tie.Need-slice-aggregate-copy
+slice-aggregate-copy c = search needs
+
+copy-requires : tie.Need-copy-requires
+copy-requires c κs = search needs
+
+slice-aggregate-select-groups : tie.Need-slice-aggregate-select-groups
+slice-aggregate-select-groups c = search needs
+
+select-groups-requires : tie.Need-select-groups-requires
+select-groups-requires c κs = search needs
+
+same-length : tie.Need-same-length
+same-length c = search needs
+
+returns : tie.Need-returns
+returns c =
+    let a = c .before .before .before .before .before .before .before .before .before .before .args in
+    c .before .before .select-groups .ensures
+    ∙ ap (λ (r : List ℕ). put (a .bitmap .now) 0 (selected r (8 * a .k) (a .w) (ranging (a .low) (a .span) (a .flip)))) (c .before .before .before .before .before .before .copy .ensures)
+    ∙ ap (put (a .bitmap .now) 0) (selected-padded (drop (a .a) (a .page .now)) 80 (8 * a .k) (a .w) (ranging (a .low) (a .span) (a .flip)))
+
+pub tail-spec : {M : Type 1} → statement M
+tail-spec =
+    tie.close
+    (tie.spec
+    slice-aggregate-copy
+    copy-requires
+    slice-aggregate-select-groups
+    select-groups-requires
+    same-length
+    returns)

@@ -1,0 +1,4 @@
+pub mod Selected
+pub mod Groups
+pub mod Pages
+pub mod Comparisons

@@ -1,0 +1,3 @@
+// Packed entries compared where they lie: eight entries are one byte of the bitmap.
+pub mod groups;
+pub mod pages;
