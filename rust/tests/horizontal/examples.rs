@@ -1,9 +1,9 @@
-//! The scope paper's horizontal examples, and its easy errors.
+//! Document 01's horizontal examples, and its easy errors.
 
 use crate::reader::horizontal::{Pack, Scan, Unpack};
 use crate::support::calls::Calls;
 
-/// A page of the paper with one comparison of it.
+/// A page of document 01 with one comparison of it.
 struct Example {
     name: &'static str,
     width: u32,
@@ -84,7 +84,7 @@ const EXAMPLES: [Example; 6] = [
 
 #[test]
 fn the_examples_scanned() {
-    let mut calls = Calls::new("the paper's horizontal examples, scanned");
+    let mut calls = Calls::new("document 01's horizontal examples, scanned");
     for example in EXAMPLES {
         let scanned = calls.scan(&Scan {
             page: example.page,
@@ -104,7 +104,7 @@ fn the_examples_scanned() {
 
 #[test]
 fn the_examples_unpacked_and_packed() {
-    let mut calls = Calls::new("the paper's horizontal examples, unpacked and packed");
+    let mut calls = Calls::new("document 01's horizontal examples, unpacked and packed");
     for example in EXAMPLES {
         let Example { width, name, .. } = example;
         let unpacked = calls.unpack(&Unpack {

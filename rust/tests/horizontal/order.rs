@@ -1,4 +1,4 @@
-//! Where several codes could be given, the first in the paper's order is.
+//! Where several codes could be given, the first in document 01's order is.
 
 use crate::reader::horizontal::{Pack, Scan, Unpack};
 use crate::support::calls::Calls;

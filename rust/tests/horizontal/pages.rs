@@ -34,6 +34,9 @@ pub fn entries(kind: Kind, width: u32, n: usize, random: &mut Random) -> Vec<u32
 
 /// A good page of n entries.
 pub fn page(kind: Kind, width: u32, n: usize, random: &mut Random) -> Vec<u8> {
+    if let Kind::Random = kind {
+        return random_page(width, n, random);
+    }
     let entries = entries(kind, width, n, random);
     let room = vec![0; page_bytes(width, n)];
     pack(&Pack {
@@ -42,6 +45,16 @@ pub fn page(kind: Kind, width: u32, n: usize, random: &mut Random) -> Vec<u8> {
         page: &room,
     })
     .held
+}
+
+/// Any bytes, but for the unused bits of the last one.
+fn random_page(width: u32, n: usize, random: &mut Random) -> Vec<u8> {
+    let mut page = random.bytes(page_bytes(width, n));
+    let unused = page.len() * 8 - n * width as usize;
+    if let Some(last) = page.last_mut() {
+        *last &= 0xFF >> unused;
+    }
+    page
 }
 
 /// Constants where a comparison may go wrong: the ends of all number ranges on the way, an entry of

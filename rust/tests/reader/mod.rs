@@ -1,5 +1,5 @@
-//! The second reader: the rules of the scope paper over again, bit by bit and with no thought of speed.
-//! It is written from the paper alone and shares no code with the library or the package.
+//! The second reader: the rules of document 01 over again, bit by bit and with no thought of speed.
+//! It is written from that document alone and shares no code with the library or the package.
 
 pub mod horizontal;
 
