@@ -14,6 +14,10 @@ const ENTRIES: usize = 16_384;
 const SOME_WIDTHS: [u32; 8] = [1, 3, 7, 8, 13, 16, 24, 32];
 
 pub fn report() {
+    println!(
+        "\nobvious: safe Rust, one entry after another, each through a window of eight bytes."
+    );
+    println!("best: 64 entries unpacked with constant shifts, then compared into one word of the bitmap.");
     heading(
         "Horizontal scan, 16,384 entries, a band of half the numbers",
         &["obvious", "best"],
@@ -51,59 +55,74 @@ fn scan(width: u32) {
     let page = page(width);
     let (low, high) = band(width);
     let between = Comparison::between(low.into(), high.into());
+    let scan_ours = |bitmap: &mut [u8]| {
+        horizontal::scan(black_box(&page), width, ENTRIES, between, bitmap).expect("a good page")
+    };
+    let scan_obvious =
+        |bitmap: &mut [u8]| obvious::scan(black_box(&page), width, low, high, bitmap);
+    let scan_best = |bitmap: &mut [u8]| best::scan(black_box(&page), width, low, high, bitmap);
+
     let mut bitmaps = [[0u8; ENTRIES / 8]; 3];
     let [ours, obvious, best] = &mut bitmaps;
-    let mut run_ours = || horizontal::scan(black_box(&page), width, ENTRIES, between, ours);
-    let mut run_obvious = || obvious::scan(black_box(&page), width, low, high, obvious);
-    let mut run_best = || best::scan(black_box(&page), width, low, high, best);
+    let counts = [scan_ours(ours), scan_obvious(obvious), scan_best(best)];
+    assert_eq!(counts, [counts[0]; 3], "width {width}");
+    assert_eq!(bitmaps, [bitmaps[0]; 3], "width {width}");
 
-    let count = run_ours().expect("a good page");
-    assert_eq!([run_obvious(), run_best()], [count; 2], "width {width}");
+    let [ours, obvious, best] = &mut bitmaps;
     let taken = time(
         ENTRIES,
         [
-            &mut || _ = black_box(run_ours()),
-            &mut || _ = black_box(run_obvious()),
-            &mut || _ = black_box(run_best()),
+            &mut || _ = black_box(scan_ours(ours)),
+            &mut || _ = black_box(scan_obvious(obvious)),
+            &mut || _ = black_box(scan_best(best)),
         ],
     );
-    assert!(bitmaps.iter().all(|b| *b == bitmaps[0]), "width {width}");
     row(width, &taken);
 }
 
 fn unpack(width: u32) {
     let page = page(width);
+    let unpack_ours = |list: &mut [u32]| {
+        horizontal::unpack(black_box(&page), width, ENTRIES, list).expect("a good page")
+    };
+    let unpack_obvious = |list: &mut [u32]| obvious::unpack(black_box(&page), width, list);
+
     let mut lists = [vec![0; ENTRIES], vec![0; ENTRIES]];
+    let [ours, obvious] = &mut lists;
+    unpack_ours(ours);
+    unpack_obvious(obvious);
+    assert_eq!(lists, [entries(width), entries(width)], "width {width}");
+
     let [ours, obvious] = &mut lists;
     let taken = time(
         ENTRIES,
-        [
-            &mut || _ = black_box(horizontal::unpack(black_box(&page), width, ENTRIES, ours)),
-            &mut || obvious::unpack(black_box(&page), width, black_box(obvious)),
-        ],
+        [&mut || _ = black_box(unpack_ours(ours)), &mut || {
+            unpack_obvious(black_box(obvious))
+        }],
     );
-    assert_eq!(lists, [entries(width), entries(width)], "width {width}");
     row(width, &taken);
 }
 
 fn pack(width: u32) {
     let entries = entries(width);
+    let pack_ours = |page: &mut [u8]| {
+        horizontal::pack(black_box(&entries), width, page).expect("the entries fit the width")
+    };
+    let pack_obvious = |page: &mut [u8]| obvious::pack(black_box(&entries), width, page);
+
     let mut pages = [page(width), page(width)];
-    pages.iter_mut().for_each(|page| page.fill(0xA5));
+    let [ours, obvious] = &mut pages;
+    pack_ours(ours);
+    obvious.fill(0xA5);
+    assert!(pack_obvious(obvious), "width {width}");
+    assert_eq!(pages[0], pages[1], "width {width}");
+
     let [ours, obvious] = &mut pages;
     let taken = time(
         ENTRIES,
-        [
-            &mut || _ = black_box(horizontal::pack(black_box(&entries), width, ours)),
-            &mut || {
-                _ = black_box(obvious::pack(
-                    black_box(&entries),
-                    width,
-                    black_box(obvious),
-                ))
-            },
-        ],
+        [&mut || _ = black_box(pack_ours(ours)), &mut || {
+            _ = black_box(pack_obvious(black_box(obvious)))
+        }],
     );
-    assert_eq!(pages, [page(width), page(width)], "width {width}");
     row(width, &taken);
 }

@@ -1,14 +1,20 @@
 //! The obvious safe Rust: one entry after another, no branch on what it holds.
 
-/// An entry, put together from the bytes that it can touch.
+/// The eight bytes from a place on as a number, low byte first; past the page's end they are 0.
+fn window(page: &[u8], at: usize) -> u64 {
+    match page.get(at..at + 8) {
+        Some(bytes) => bytes.iter().rev().fold(0, |w, &b| w << 8 | u64::from(b)),
+        None => (at..page.len())
+            .rev()
+            .fold(0, |w, i| w << 8 | u64::from(page[i])),
+    }
+}
+
+/// An entry, through the window in which it stands whole.
 fn entry(page: &[u8], width: u32, i: usize) -> u32 {
     let first = i * width as usize;
-    let mut bits = 0u64;
-    for k in 0..5 {
-        let byte = page.get(first / 8 + k).copied().unwrap_or(0);
-        bits |= u64::from(byte) << (8 * k);
-    }
-    ((bits >> (first % 8)) & ((1 << width) - 1)) as u32
+    let bits = window(page, first / 8) >> (first % 8);
+    (bits & ((1 << width) - 1)) as u32
 }
 
 /// Selects the entries from low to high, eight to a byte of the bitmap, and counts them.
