@@ -3,7 +3,8 @@
 .PHONY: help run test lib bench clean
 .NOTPARALLEL:
 
-CARGO = CARGO_TARGET_DIR=$(CURDIR)/target/rust cargo
+# Cargo builds below target/ too, over the library just made.
+CARGO = CAHERMISK_LIB_DIR=$(CURDIR)/target/staticlib CARGO_TARGET_DIR=$(CURDIR)/target/rust cargo
 
 help:
 	@echo 'make run     prove the examples program and what it stands on, and run it'
