@@ -36,10 +36,38 @@ fn run(command: &mut Command, needs: &str) -> Output {
 const NEEDS_CC: &str = "this test needs a C compiler, cc, on PATH";
 const NEEDS_CXX: &str = "this test needs a C++ compiler, c++, on PATH";
 
-/// Compiles a file that includes the header alone, twice, and uses every name of it.
+/// The header's names with document 01's numbers.
+const NUMBERS: [(&str, u32); 20] = [
+    ("CAHERMISK_ACCEPTED", 0),
+    ("CAHERMISK_WIDTH_ABOVE_32", 1),
+    ("CAHERMISK_TOO_MANY_ENTRIES", 2),
+    ("CAHERMISK_OPERATOR_ABOVE_7", 3),
+    ("CAHERMISK_OUTPUT_TOO_SHORT", 4),
+    ("CAHERMISK_INPUT_ENDS_TOO_EARLY", 5),
+    ("CAHERMISK_INPUT_LEFT_OVER", 6),
+    ("CAHERMISK_UNUSED_BITS_NOT_0", 7),
+    ("CAHERMISK_VALUE_TOO_LARGE", 8),
+    ("CAHERMISK_EQUAL", 0),
+    ("CAHERMISK_NOT_EQUAL", 1),
+    ("CAHERMISK_LESS", 2),
+    ("CAHERMISK_LESS_OR_EQUAL", 3),
+    ("CAHERMISK_GREATER", 4),
+    ("CAHERMISK_GREATER_OR_EQUAL", 5),
+    ("CAHERMISK_BETWEEN", 6),
+    ("CAHERMISK_NOT_BETWEEN", 7),
+    ("CAHERMISK_MAX_WIDTH", 32),
+    ("CAHERMISK_MAX_ENTRIES", 16_384),
+    ("sizeof(cahermisk_answer)", 8),
+];
+
+/// Compiles a file that includes the header alone, twice, calls its functions and holds its numbers to ours.
 fn compile_header(compiler: &str, needs: &str, standard: &str, file: &str) {
+    let mut text = HEADER_USER.to_string();
+    for (i, (name, number)) in NUMBERS.iter().enumerate() {
+        text += &format!("typedef char number_{i}[{name} == {number} ? 1 : -1];\n");
+    }
     let source = room(file).join(file);
-    fs::write(&source, HEADER_USER).expect("a source file can be written");
+    fs::write(&source, text).expect("a source file can be written");
     run(
         Command::new(compiler)
             .args([standard, "-Wall", "-Wextra", "-Wpedantic", "-Werror"])

@@ -10,6 +10,7 @@ mod support;
 mod calls;
 mod comparisons;
 mod examples;
+mod fences;
 mod lengths;
 mod limits;
 mod order;

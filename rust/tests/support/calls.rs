@@ -1,6 +1,6 @@
 //! Calls of the library, each compared with the second reader.
 
-use std::fmt::Debug;
+use std::fmt::LowerHex;
 use std::io::{stdout, Write};
 
 use super::lent::{Filled, Lent, FILLINGS};
@@ -26,7 +26,7 @@ impl Calls {
 
     /// Makes one call on places that hold `input` and `output`, and panics unless it answers `want`,
     /// leaves what `want` says, and changes neither its input nor a guard. Gives what it left.
-    pub fn check<I: Filled, O: Filled + Debug>(
+    pub fn check<I: Filled, O: Filled + LowerHex>(
         &mut self,
         input: &[I],
         output: &[O],
@@ -48,7 +48,7 @@ impl Calls {
         } else if !input_place.guards_kept() || !output_place.guards_kept() {
             "wrote outside the place lent".to_string()
         } else if let Some(i) = first_difference(output_place.held(), &want.held) {
-            format!("left {:?} in place {i}", output_place.held()[i])
+            format!("left {:x} in place {i}", output_place.held()[i])
         } else {
             return want;
         };
@@ -56,7 +56,7 @@ impl Calls {
     }
 
     /// Ends the test with all that is needed to make the failing call again.
-    fn report<O: Debug>(&self, fault: &str, want: &Outcome<O>, described: String) -> ! {
+    fn report<O: LowerHex>(&self, fault: &str, want: &Outcome<O>, described: String) -> ! {
         panic!(
             "{}: call {} with CAHERMISK_SEED={:#x} {fault}\n  {described}\n  the rules: ({}, {}), leaving {}",
             self.subject,
@@ -84,14 +84,14 @@ fn first_difference<T: PartialEq>(held: &[T], want: &[T]) -> Option<usize> {
     held.iter().zip(want).position(|(h, w)| h != w)
 }
 
-/// A list as text, its first places alone where it is long: the seed makes the others again.
-pub fn clipped<T: Debug>(list: &[T]) -> String {
-    const SHOWN: usize = 160;
-    let shown = &list[..list.len().min(SHOWN)];
-    let more = if list.len() > SHOWN {
-        " at the front"
-    } else {
-        ""
-    };
-    format!("{} places {shown:02x?}{more}", list.len())
+/// A list in hexadecimal, its front alone where it is long: the seed makes all of it again.
+pub fn clipped<T: LowerHex>(list: &[T]) -> String {
+    const SHOWN: usize = 96;
+    let shown: Vec<String> = list
+        .iter()
+        .take(SHOWN)
+        .map(|x| format!("{x:02x}"))
+        .collect();
+    let more = if list.len() > SHOWN { " .." } else { "" };
+    format!("[{}{more}] ({})", shown.join(" "), list.len())
 }
