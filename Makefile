@@ -1,0 +1,41 @@
+# What can be made here. `make` alone lists it.
+
+.PHONY: help run test lib bench clean
+.NOTPARALLEL:
+
+# Cargo builds below target/ too, over the library just made.
+CARGO = CAHERMISK_LIB_DIR=$(CURDIR)/target/staticlib CARGO_TARGET_DIR=$(CURDIR)/target/rust cargo
+
+help:
+	@echo 'make run     prove the examples program and what it stands on, and run it'
+	@echo 'make test    the gate: prove everything from nothing, then test the library just proved'
+	@echo 'make lib     prove the library and write target/staticlib/libcahermisk.a'
+	@echo 'make bench   the library, then its speed beside two Rust loops for the same job'
+	@echo 'make clean   remove what was built (target/)'
+
+# Nothing is shown of the proofs unless one fails.
+run: need-rt
+	@said=$$(rt check examples 2>&1) || { printf '%s\n' "$$said"; exit 1; }
+	@tools/run-program examples
+
+test: need-rt need-cargo need-cc need-c++
+	@tools/gate
+
+lib: need-rt
+	rt check cahermisk
+	tools/native-lib
+
+bench: need-cargo lib
+	@$(CARGO) bench --offline --locked --quiet --manifest-path rust/Cargo.toml
+
+clean:
+	rm -rf target
+
+# What a missing tool is, and where it comes from.
+WHAT_rt = the command of the Rattle toolchain, which proves the crates
+WHAT_cargo = the Rust toolchain, which builds the tests and the benchmark
+WHAT_cc = a C compiler, which links the tests and compiles the C example
+WHAT_c++ = a C++ compiler, which tests that C++ takes the header
+
+need-%:
+	@command -v $* >/dev/null 2>&1 || { echo "make: $* is missing: $(WHAT_$*). Put it on PATH and run make again" >&2; exit 1; }

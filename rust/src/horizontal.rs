@@ -1,0 +1,161 @@
+//! Bare horizontal pages: entries of 0 to 32 bits, laid end to end, lowest bit first.
+//!
+//! Entry i takes the bits i × width to i × width + width − 1 of the page, bytes in order. A page of
+//! n entries has exactly ceil(n × width / 8) bytes, and the unused bits of the last one are 0.
+
+use crate::{ffi, Bitmap, Comparison, Refusal, MAX_ENTRIES, MAX_WIDTH};
+
+/// The bytes of a page of `n` entries. Past the limits it is the length at the limit: enough room
+/// for the library to say what is wrong with a call, whatever `n` and `width` are.
+fn page_room(width: u32, n: usize) -> usize {
+    (n.min(MAX_ENTRIES) * width.min(MAX_WIDTH) as usize).div_ceil(8)
+}
+
+/// Compares the `n` entries of `page` and writes the selection to the first ceil(n / 8) bytes of
+/// `bitmap`; later bytes are kept. Gives the number of selected entries.
+///
+/// # Errors
+///
+/// The first that holds of [`WidthAbove32`](Refusal::WidthAbove32),
+/// [`TooManyEntries`](Refusal::TooManyEntries), [`OutputTooShort`](Refusal::OutputTooShort),
+/// [`InputEndsTooEarly`](Refusal::InputEndsTooEarly), [`InputLeftOver`](Refusal::InputLeftOver),
+/// [`UnusedBitsNot0`](Refusal::UnusedBitsNot0).
+///
+/// # Examples
+///
+/// ```
+/// use cahermisk::{horizontal, Comparison, Refusal};
+///
+/// let page = [0x88, 0xC6, 0xFA];
+/// let mut bitmap = [0u8; 1];
+/// assert_eq!(horizontal::scan(&page, 3, 8, Comparison::less(9), &mut bitmap), Ok(8));
+/// assert_eq!(bitmap, [0xFF]);
+///
+/// let refused = horizontal::scan(&page[..2], 3, 8, Comparison::less(3), &mut bitmap);
+/// assert_eq!(refused, Err(Refusal::InputEndsTooEarly));
+/// assert_eq!(bitmap, [0xFF]);
+/// ```
+pub fn scan(
+    page: &[u8],
+    width: u32,
+    n: usize,
+    comparison: Comparison,
+    bitmap: &mut [u8],
+) -> Result<usize, Refusal> {
+    ffi::horizontal_scan(page, width, n, comparison, bitmap)
+}
+
+/// Compares the `n` entries of `page`, and gives the selection as a new [`Bitmap`].
+///
+/// # Errors
+///
+/// Those of [`scan`], but for [`OutputTooShort`](Refusal::OutputTooShort).
+///
+/// # Examples
+///
+/// ```
+/// use cahermisk::{horizontal, Comparison};
+///
+/// let selection = horizontal::scan_to_bitmap(&[0x88, 0xC6, 0xFA], 3, 8, Comparison::between(2, 4))?;
+/// assert_eq!(selection.as_bytes(), [0b0001_1100]);
+/// assert_eq!(selection.count(), 3);
+/// # Ok::<(), cahermisk::Refusal>(())
+/// ```
+pub fn scan_to_bitmap(
+    page: &[u8],
+    width: u32,
+    n: usize,
+    comparison: Comparison,
+) -> Result<Bitmap, Refusal> {
+    let mut bytes = vec![0; n.min(MAX_ENTRIES).div_ceil(8)];
+    let count = scan(page, width, n, comparison, &mut bytes)?;
+    Ok(Bitmap::new(bytes, n, count))
+}
+
+/// Writes the `n` entries of `page` to the first `n` places of `entries`; the others are kept.
+/// Gives `n`.
+///
+/// # Errors
+///
+/// The first that holds of [`WidthAbove32`](Refusal::WidthAbove32),
+/// [`TooManyEntries`](Refusal::TooManyEntries), [`OutputTooShort`](Refusal::OutputTooShort),
+/// [`InputEndsTooEarly`](Refusal::InputEndsTooEarly), [`InputLeftOver`](Refusal::InputLeftOver),
+/// [`UnusedBitsNot0`](Refusal::UnusedBitsNot0).
+///
+/// # Examples
+///
+/// ```
+/// use cahermisk::horizontal;
+///
+/// let mut entries = [99; 9];
+/// assert_eq!(horizontal::unpack(&[0x88, 0xC6, 0xFA], 3, 8, &mut entries), Ok(8));
+/// assert_eq!(entries, [0, 1, 2, 3, 4, 5, 6, 7, 99]);
+/// ```
+pub fn unpack(page: &[u8], width: u32, n: usize, entries: &mut [u32]) -> Result<usize, Refusal> {
+    ffi::horizontal_unpack(page, width, n, entries)
+}
+
+/// Gives the `n` entries of `page` as a new `Vec`.
+///
+/// # Errors
+///
+/// Those of [`unpack`], but for [`OutputTooShort`](Refusal::OutputTooShort).
+///
+/// # Examples
+///
+/// ```
+/// use cahermisk::horizontal;
+///
+/// let entries = horizontal::unpack_to_vec(&[0x88, 0xC6, 0xFA], 3, 8)?;
+/// assert_eq!(entries, [0, 1, 2, 3, 4, 5, 6, 7]);
+/// # Ok::<(), cahermisk::Refusal>(())
+/// ```
+pub fn unpack_to_vec(page: &[u8], width: u32, n: usize) -> Result<Vec<u32>, Refusal> {
+    let mut entries = vec![0; n.min(MAX_ENTRIES)];
+    unpack(page, width, n, &mut entries)?;
+    Ok(entries)
+}
+
+/// Packs all of `entries` to the front of `page`; the bytes after it are kept. Gives the number of
+/// bytes written, ceil(entries × width / 8).
+///
+/// # Errors
+///
+/// The first that holds of [`WidthAbove32`](Refusal::WidthAbove32),
+/// [`TooManyEntries`](Refusal::TooManyEntries), [`ValueTooLarge`](Refusal::ValueTooLarge),
+/// [`OutputTooShort`](Refusal::OutputTooShort).
+///
+/// # Examples
+///
+/// ```
+/// use cahermisk::{horizontal, Refusal};
+///
+/// let mut page = [0; 3];
+/// assert_eq!(horizontal::pack(&[0, 1, 2, 3, 4, 5, 6, 7], 3, &mut page), Ok(3));
+/// assert_eq!(page, [0x88, 0xC6, 0xFA]);
+/// assert_eq!(horizontal::pack(&[8], 3, &mut page), Err(Refusal::ValueTooLarge));
+/// ```
+pub fn pack(entries: &[u32], width: u32, page: &mut [u8]) -> Result<usize, Refusal> {
+    ffi::horizontal_pack(entries, width, page)
+}
+
+/// Packs all of `entries` to a new page.
+///
+/// # Errors
+///
+/// Those of [`pack`], but for [`OutputTooShort`](Refusal::OutputTooShort).
+///
+/// # Examples
+///
+/// ```
+/// use cahermisk::horizontal;
+///
+/// let page = horizontal::pack_to_vec(&[0, 1, 2, 3, 4, 5, 6, 7], 3)?;
+/// assert_eq!(page, [0x88, 0xC6, 0xFA]);
+/// # Ok::<(), cahermisk::Refusal>(())
+/// ```
+pub fn pack_to_vec(entries: &[u32], width: u32) -> Result<Vec<u8>, Refusal> {
+    let mut page = vec![0; page_room(width, entries.len())];
+    pack(entries, width, &mut page)?;
+    Ok(page)
+}

@@ -1,0 +1,46 @@
+//! Compares, unpacks and packs the columns of a packed log.
+//!
+//! The work is done by a library that is proved to answer as its rules say, for any bytes and any
+//! numbers; this package makes its calls safe. No function here panics. A refused call gives a
+//! [`Refusal`] and changes nothing that was lent to it.
+//!
+//! - [`horizontal`]: bare horizontal pages, entries of 0 to 32 bits laid end to end.
+//!
+//! A [`Comparison`] is an [`Operator`] and two constants; a scan's result is a [`Bitmap`].
+//!
+//! ```
+//! use cahermisk::{horizontal, Comparison};
+//!
+//! // The entries 0 to 7, three bits each.
+//! let page = [0x88, 0xC6, 0xFA];
+//! let selection = horizontal::scan_to_bitmap(&page, 3, 8, Comparison::less(3))?;
+//! assert_eq!(selection.count(), 3);
+//! assert_eq!(selection.selected().collect::<Vec<_>>(), [0, 1, 2]);
+//! # Ok::<(), cahermisk::Refusal>(())
+//! ```
+
+#![warn(missing_docs)]
+#![deny(unsafe_code)]
+
+mod bitmap;
+mod comparison;
+mod ffi;
+pub mod horizontal;
+mod operator;
+mod refusal;
+
+pub use bitmap::Bitmap;
+pub use comparison::Comparison;
+pub use operator::Operator;
+pub use refusal::Refusal;
+
+/// The most bits an entry may have.
+pub const MAX_WIDTH: u32 = 32;
+
+/// The most entries a page may have.
+pub const MAX_ENTRIES: usize = 16_384;
+
+/// The examples of README.md, run as tests.
+#[cfg(doctest)]
+#[doc = include_str!("../../README.md")]
+struct Readme;

@@ -1,0 +1,86 @@
+//! Why a call was refused.
+
+use std::error::Error;
+use std::fmt;
+
+/// Why a call was refused. A refused call has changed nothing that was lent to it.
+#[derive(Clone, Copy, Debug, PartialEq, Eq, Hash)]
+#[non_exhaustive]
+pub enum Refusal {
+    /// 1: width above 32.
+    WidthAbove32,
+    /// 2: more than 16,384 entries.
+    TooManyEntries,
+    /// 3: operator above 7.
+    OperatorAbove7,
+    /// 4: output too short.
+    OutputTooShort,
+    /// 5: input ends too early.
+    InputEndsTooEarly,
+    /// 6: input left over.
+    InputLeftOver,
+    /// 7: unused bits not 0.
+    UnusedBitsNot0,
+    /// 8: entry not below 2^width.
+    ValueTooLarge,
+    /// A code that this package has no name for, from a library newer than the package.
+    Unknown(u32),
+}
+
+impl Refusal {
+    /// The refusal of a code, or `None` for code 0, which is acceptance.
+    ///
+    /// ```
+    /// use cahermisk::Refusal;
+    ///
+    /// assert_eq!(Refusal::from_code(0), None);
+    /// assert_eq!(Refusal::from_code(6), Some(Refusal::InputLeftOver));
+    /// ```
+    pub const fn from_code(code: u32) -> Option<Refusal> {
+        Some(match code {
+            0 => return None,
+            1 => Refusal::WidthAbove32,
+            2 => Refusal::TooManyEntries,
+            3 => Refusal::OperatorAbove7,
+            4 => Refusal::OutputTooShort,
+            5 => Refusal::InputEndsTooEarly,
+            6 => Refusal::InputLeftOver,
+            7 => Refusal::UnusedBitsNot0,
+            8 => Refusal::ValueTooLarge,
+            other => Refusal::Unknown(other),
+        })
+    }
+
+    /// The code of the refusal, from 1 up.
+    pub const fn code(self) -> u32 {
+        match self {
+            Refusal::WidthAbove32 => 1,
+            Refusal::TooManyEntries => 2,
+            Refusal::OperatorAbove7 => 3,
+            Refusal::OutputTooShort => 4,
+            Refusal::InputEndsTooEarly => 5,
+            Refusal::InputLeftOver => 6,
+            Refusal::UnusedBitsNot0 => 7,
+            Refusal::ValueTooLarge => 8,
+            Refusal::Unknown(code) => code,
+        }
+    }
+}
+
+impl fmt::Display for Refusal {
+    fn fmt(&self, f: &mut fmt::Formatter<'_>) -> fmt::Result {
+        f.write_str(match self {
+            Refusal::WidthAbove32 => "width above 32",
+            Refusal::TooManyEntries => "more than 16,384 entries",
+            Refusal::OperatorAbove7 => "operator above 7",
+            Refusal::OutputTooShort => "output too short",
+            Refusal::InputEndsTooEarly => "input ends too early",
+            Refusal::InputLeftOver => "input left over",
+            Refusal::UnusedBitsNot0 => "unused bits not 0",
+            Refusal::ValueTooLarge => "entry not below 2^width",
+            Refusal::Unknown(code) => return write!(f, "refused with code {code}"),
+        })
+    }
+}
+
+impl Error for Refusal {}

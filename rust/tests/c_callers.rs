@@ -1,0 +1,164 @@
+//! What a caller in C or C++ is given: the header by itself, and the example of README.md.
+
+use std::fs;
+use std::path::{Path, PathBuf};
+use std::process::{Command, Output};
+
+/// The top of the repository.
+fn top() -> PathBuf {
+    Path::new(env!("CARGO_MANIFEST_DIR")).join("..")
+}
+
+/// A new folder to compile in.
+fn room(name: &str) -> PathBuf {
+    let room = Path::new(env!("CARGO_TARGET_TMPDIR")).join(name);
+    if room.exists() {
+        fs::remove_dir_all(&room).expect("the folder of an earlier run can be removed");
+    }
+    fs::create_dir_all(&room).expect("a folder can be made");
+    room
+}
+
+/// Runs a command and gives what it wrote; the test fails with what it said unless it ends well.
+fn run(command: &mut Command, needs: &str) -> Output {
+    let output = command
+        .output()
+        .unwrap_or_else(|error| panic!("{needs}: {error}"));
+    assert!(
+        output.status.success(),
+        "{needs}: {command:?} ended with {}\n{}",
+        output.status,
+        String::from_utf8_lossy(&output.stderr)
+    );
+    output
+}
+
+const NEEDS_CC: &str = "this test needs a C compiler, cc, on PATH";
+const NEEDS_CXX: &str = "this test needs a C++ compiler, c++, on PATH";
+
+/// The header's names with document 01's numbers.
+const NUMBERS: [(&str, u32); 20] = [
+    ("CAHERMISK_ACCEPTED", 0),
+    ("CAHERMISK_WIDTH_ABOVE_32", 1),
+    ("CAHERMISK_TOO_MANY_ENTRIES", 2),
+    ("CAHERMISK_OPERATOR_ABOVE_7", 3),
+    ("CAHERMISK_OUTPUT_TOO_SHORT", 4),
+    ("CAHERMISK_INPUT_ENDS_TOO_EARLY", 5),
+    ("CAHERMISK_INPUT_LEFT_OVER", 6),
+    ("CAHERMISK_UNUSED_BITS_NOT_0", 7),
+    ("CAHERMISK_VALUE_TOO_LARGE", 8),
+    ("CAHERMISK_EQUAL", 0),
+    ("CAHERMISK_NOT_EQUAL", 1),
+    ("CAHERMISK_LESS", 2),
+    ("CAHERMISK_LESS_OR_EQUAL", 3),
+    ("CAHERMISK_GREATER", 4),
+    ("CAHERMISK_GREATER_OR_EQUAL", 5),
+    ("CAHERMISK_BETWEEN", 6),
+    ("CAHERMISK_NOT_BETWEEN", 7),
+    ("CAHERMISK_MAX_WIDTH", 32),
+    ("CAHERMISK_MAX_ENTRIES", 16_384),
+    ("sizeof(cahermisk_answer)", 8),
+];
+
+/// Compiles a file that includes the header alone, twice, calls its functions and holds its numbers to ours.
+fn compile_header(compiler: &str, needs: &str, standard: &str, file: &str) {
+    let mut text = HEADER_USER.to_string();
+    for (i, (name, number)) in NUMBERS.iter().enumerate() {
+        text += &format!("typedef char number_{i}[{name} == {number} ? 1 : -1];\n");
+    }
+    let source = room(file).join(file);
+    fs::write(&source, text).expect("a source file can be written");
+    run(
+        Command::new(compiler)
+            .args([standard, "-Wall", "-Wextra", "-Wpedantic", "-Werror"])
+            .args(["-fsyntax-only", "-I"])
+            .arg(top().join("include"))
+            .arg(&source),
+        needs,
+    );
+}
+
+const HEADER_USER: &str = "\
+#include <cahermisk.h>
+#include <cahermisk.h>
+static uint8_t page[CAHERMISK_HORIZONTAL_BYTES(3, 8)];
+static uint8_t bitmap[CAHERMISK_BITMAP_BYTES(8)];
+static uint32_t entries[CAHERMISK_MAX_ENTRIES];
+int all_ends_well(void);
+int all_ends_well(void) {
+    cahermisk_answer packed = cahermisk_horizontal_pack(entries, 8, 3, page, sizeof page);
+    cahermisk_answer unpacked = cahermisk_horizontal_unpack(page, sizeof page, 3, 8, entries, 8);
+    cahermisk_answer scanned = cahermisk_horizontal_scan(page, sizeof page, CAHERMISK_MAX_WIDTH, 8,
+        CAHERMISK_NOT_BETWEEN, INT64_MIN, INT64_MAX, bitmap, sizeof bitmap);
+    return packed.code == CAHERMISK_ACCEPTED && unpacked.number == 8
+        && scanned.code != CAHERMISK_VALUE_TOO_LARGE;
+}
+";
+
+#[test]
+fn the_header_is_c99() {
+    compile_header("cc", NEEDS_CC, "-std=c99", "header.c");
+}
+
+#[test]
+fn the_header_is_cxx() {
+    compile_header("c++", NEEDS_CXX, "-std=c++11", "header.cc");
+}
+
+/// The fenced blocks of a Markdown text: the language of each and what it holds.
+fn blocks(text: &str) -> Vec<(String, String)> {
+    let mut blocks = Vec::new();
+    let mut open: Option<(String, String)> = None;
+    for line in text.lines() {
+        match (line.strip_prefix("```"), &mut open) {
+            (Some(language), None) => open = Some((language.to_string(), String::new())),
+            (Some(_), Some(_)) => blocks.extend(open.take()),
+            (None, Some((_, content))) => {
+                content.push_str(line);
+                content.push('\n');
+            }
+            (None, None) => {}
+        }
+    }
+    assert!(open.is_none(), "a block of README.md is not closed");
+    blocks
+}
+
+/// README.md's C program, the commands that compile and run it, and what it prints.
+fn readme_example() -> [String; 3] {
+    let text = fs::read_to_string(top().join("README.md")).expect("README.md can be read");
+    let blocks = blocks(&text);
+    let at = blocks.iter().position(|(language, _)| language == "c");
+    let at = at.expect("README.md has a block of C");
+    let block = |i: usize, language: &str| {
+        let found = blocks.get(i).filter(|(l, _)| l == language);
+        let (_, content) =
+            found.unwrap_or_else(|| panic!("README.md: a block of {language} follows the C one"));
+        content.clone()
+    };
+    [block(at, "c"), block(at + 1, "sh"), block(at + 2, "text")]
+}
+
+#[test]
+fn the_c_example_of_the_readme_prints_what_the_readme_says() {
+    let [program, commands, printed] = readme_example();
+    // The commands are for the top of the repository: a folder like it.
+    let room = room("readme");
+    fs::create_dir_all(room.join("include")).expect("a folder can be made");
+    fs::create_dir_all(room.join("target/staticlib")).expect("a folder can be made");
+    let header = top().join("include/cahermisk.h");
+    fs::copy(header, room.join("include/cahermisk.h")).expect("the header can be copied");
+    let archive = room.join("target/staticlib/libcahermisk.a");
+    fs::copy(env!("CAHERMISK_ARCHIVE"), archive).expect("the archive can be copied");
+    fs::write(room.join("example.c"), program).expect("a source file can be written");
+
+    run(Command::new("cc").arg("--version"), NEEDS_CC);
+    let shell = "this test needs a shell, sh, on PATH";
+    let output = run(
+        Command::new("sh")
+            .args(["-e", "-c", &commands])
+            .current_dir(&room),
+        shell,
+    );
+    assert_eq!(String::from_utf8_lossy(&output.stdout), printed);
+}

@@ -1,0 +1,135 @@
+//! Good pages under all comparisons.
+
+use super::pages::{constants, page, Kind, KINDS, LARGE_COUNTS, SMALL_COUNTS};
+use crate::reader::horizontal::Scan;
+use crate::support::calls::Calls;
+use crate::support::lent::FILLINGS;
+
+/// All operators with all constants: each a for operators 0 to 5, each pair for 6 and 7.
+fn compare_in_all_ways(calls: &mut Calls, page: &[u8], width: u32, n: usize) {
+    let constants = constants(page, width, n, &mut calls.random);
+    let bitmap = vec![FILLINGS[n % FILLINGS.len()]; n.div_ceil(8) + n % 3];
+    for &a in &constants {
+        for &b in &constants {
+            let operators = if a == b { 0..=7 } else { 6..=7 };
+            for op in operators {
+                calls.scan(&Scan {
+                    page,
+                    width,
+                    n,
+                    op,
+                    a,
+                    b,
+                    bitmap: &bitmap,
+                });
+            }
+        }
+    }
+}
+
+#[test]
+fn small_pages_under_every_comparison() {
+    let mut calls = Calls::new("horizontal scans of small pages");
+    for width in 0..=32 {
+        for n in SMALL_COUNTS {
+            for kind in KINDS {
+                let page = page(kind, width, n, &mut calls.random);
+                compare_in_all_ways(&mut calls, &page, width, n);
+            }
+        }
+    }
+    calls.finish();
+}
+
+#[test]
+fn large_pages() {
+    let mut calls = Calls::new("horizontal scans of large pages");
+    for width in 0..=32 {
+        for n in LARGE_COUNTS {
+            let page = page(Kind::Random, width, n, &mut calls.random);
+            for op in 0..=7 {
+                let constants = constants(&page, width, n, &mut calls.random);
+                let bitmap = calls.random.bytes(n.div_ceil(8) + 3);
+                let call = Scan {
+                    page: &page,
+                    width,
+                    n,
+                    op,
+                    a: calls.random.pick(&constants),
+                    b: calls.random.pick(&constants),
+                    bitmap: &bitmap,
+                };
+                calls.scan(&call);
+            }
+        }
+    }
+    calls.finish();
+}
+
+/// Operators 0 to 5 ignore b: any b gives what b = 0 gives.
+#[test]
+fn operators_0_to_5_ignore_b() {
+    let mut calls = Calls::new("horizontal scans with a b to ignore");
+    let page = page(Kind::Ascending, 7, 100, &mut calls.random);
+    let bitmap = [0xA5; 13];
+    for op in 0..=5 {
+        for a in [-1, 0, 50, 99, 127, 128] {
+            let mut with_b = |b| {
+                calls.scan(&Scan {
+                    page: &page,
+                    width: 7,
+                    n: 100,
+                    op,
+                    a,
+                    b,
+                    bitmap: &bitmap,
+                })
+            };
+            let plain = with_b(0);
+            for b in [i64::MIN, -1, 1, a, 127, i64::MAX] {
+                assert_eq!(with_b(b), plain, "operator {op}, a {a}, b {b}");
+            }
+        }
+    }
+    calls.finish();
+}
+
+/// Any mixture of widths, counts, operators, constants, good and faulty pages.
+#[test]
+fn scans_at_random() {
+    let mut calls = Calls::new("horizontal scans at random");
+    for _ in 0..600_000 {
+        let random = &mut calls.random;
+        let width = random.below(33) as u32;
+        let n = random.below(80);
+        let mut page = page(Kind::Random, width, n, random);
+        if random.once_in(8) {
+            let len = random.below(page.len() + 3);
+            page.resize(len, 0);
+        }
+        if let (true, Some(last)) = (random.once_in(8), page.last_mut()) {
+            *last = random.bits() as u8;
+        }
+        let room = (n.div_ceil(8) + random.below(4)).saturating_sub(random.below(2));
+        let bitmap = random.bytes(room);
+        let constants = constants(&page_of_length(&page, width, n), width, n, random);
+        let call = Scan {
+            page: &page,
+            width,
+            n,
+            op: random.below(if n == 64 { 9 } else { 8 }) as u32,
+            a: random.pick(&constants),
+            b: random.pick(&constants),
+            bitmap: &bitmap,
+        };
+        calls.scan(&call);
+    }
+    calls.finish();
+}
+
+/// The page as its entries can be read: of the right length, whatever was cut or added.
+fn page_of_length(page: &[u8], width: u32, n: usize) -> Vec<u8> {
+    let mut whole = page.to_vec();
+    whole.resize((n * width as usize).div_ceil(8), 0);
+    whole
+}

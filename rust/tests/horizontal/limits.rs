@@ -1,0 +1,105 @@
+//! Widths, counts and operators within and beyond the limits, also ones that look good once they are cut.
+
+use crate::reader::horizontal::{page_bytes, Pack, Scan, Unpack};
+use crate::support::calls::Calls;
+
+const COUNTS: [usize; 15] = [
+    0,
+    1,
+    7,
+    8,
+    9,
+    63,
+    64,
+    65,
+    127,
+    1000,
+    16_383,
+    16_384,
+    16_385,
+    (1 << 32) + 5,
+    usize::MAX,
+];
+
+fn widths() -> impl Iterator<Item = u32> {
+    (0..=33).chain([64, 255, 256 + 3, 1 << 16, 1 << 31, u32::MAX])
+}
+
+fn operators() -> impl Iterator<Item = u32> {
+    (0..=9).chain([256 + 5, 1 << 31, u32::MAX])
+}
+
+/// Rooms and page lengths that are right for the numbers given, and for the same numbers cut to 8 or 32 bits.
+fn cut(width: u32, n: usize) -> Vec<(u32, usize)> {
+    let mut shapes = Vec::new();
+    for width in [width, width & 0xFF, width & 0x3F] {
+        for n in [n, n & 0xFFFF_FFFF, n & 0x3FFF] {
+            if width <= 64 && n <= 16_385 && !shapes.contains(&(width, n)) {
+                shapes.push((width, n));
+            }
+        }
+    }
+    shapes.push((0, 0));
+    shapes
+}
+
+#[test]
+fn scans_and_unpacks() {
+    let mut calls = Calls::new("horizontal arguments about the limits");
+    for width in widths() {
+        for n in COUNTS {
+            for (page_width, page_n) in cut(width, n) {
+                let page = vec![0; page_bytes(page_width, page_n)];
+                let entries = vec![7; page_n];
+                calls.unpack(&Unpack {
+                    page: &page,
+                    width,
+                    n,
+                    entries: &entries,
+                });
+                let bitmap = vec![0xA5; page_n.div_ceil(8)];
+                scans(&mut calls, &page, width, n, &bitmap);
+            }
+        }
+    }
+    calls.finish();
+}
+
+/// All operators; of the large pages the edges and one more alone, which is enough and quick.
+fn scans(calls: &mut Calls, page: &[u8], width: u32, n: usize, bitmap: &[u8]) {
+    let chosen = calls.random.below(8) as u32;
+    for op in operators() {
+        if n > 1000 && op < 7 && op != chosen {
+            continue;
+        }
+        calls.scan(&Scan {
+            page,
+            width,
+            n,
+            op,
+            a: 0,
+            b: 0,
+            bitmap,
+        });
+    }
+}
+
+#[test]
+fn packs() {
+    let mut calls = Calls::new("horizontal packs about the limits");
+    for width in widths() {
+        for n in [0, 1, 9, 16_383, 16_384, 16_385] {
+            for entry in [0, 1, u32::MAX] {
+                for (page_width, _) in cut(width, 0) {
+                    let page = vec![0xA5; page_bytes(page_width, n)];
+                    calls.pack(&Pack {
+                        entries: &vec![entry; n],
+                        width,
+                        page: &page,
+                    });
+                }
+            }
+        }
+    }
+    calls.finish();
+}

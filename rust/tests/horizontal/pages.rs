@@ -1,0 +1,75 @@
+//! Pages to call with, and constants to compare their entries with.
+
+use crate::reader::horizontal::{entry, pack, page_bytes, Pack};
+use crate::support::random::Random;
+
+/// The counts around which a byte, a word and the limit lie.
+pub const SMALL_COUNTS: [usize; 9] = [0, 1, 7, 8, 9, 63, 64, 65, 127];
+pub const LARGE_COUNTS: [usize; 3] = [1000, 16_383, 16_384];
+
+#[derive(Clone, Copy, Debug)]
+pub enum Kind {
+    Random,
+    Zeros,
+    Ones,
+    Ascending,
+}
+
+pub const KINDS: [Kind; 4] = [Kind::Random, Kind::Zeros, Kind::Ones, Kind::Ascending];
+
+/// The greatest entry of a width.
+pub fn greatest(width: u32) -> u32 {
+    ((1u64 << width) - 1) as u32
+}
+
+pub fn entries(kind: Kind, width: u32, n: usize, random: &mut Random) -> Vec<u32> {
+    let make = |i: usize| match kind {
+        Kind::Random => random.bits() as u32,
+        Kind::Zeros => 0,
+        Kind::Ones => u32::MAX,
+        Kind::Ascending => i as u32,
+    };
+    (0..n).map(make).map(|e| e & greatest(width)).collect()
+}
+
+/// A good page of n entries.
+pub fn page(kind: Kind, width: u32, n: usize, random: &mut Random) -> Vec<u8> {
+    if let Kind::Random = kind {
+        return random_page(width, n, random);
+    }
+    let entries = entries(kind, width, n, random);
+    let room = vec![0; page_bytes(width, n)];
+    pack(&Pack {
+        entries: &entries,
+        width,
+        page: &room,
+    })
+    .held
+}
+
+/// Any bytes, but for the unused bits of the last one.
+fn random_page(width: u32, n: usize, random: &mut Random) -> Vec<u8> {
+    let mut page = random.bytes(page_bytes(width, n));
+    let unused = page.len() * 8 - n * width as usize;
+    if let Some(last) = page.last_mut() {
+        *last &= 0xFF >> unused;
+    }
+    page
+}
+
+/// Constants where a comparison may go wrong: the ends of all number ranges on the way, an entry of
+/// the page with its neighbours, and numbers that look like that entry once they are cut.
+pub fn constants(page: &[u8], width: u32, n: usize, random: &mut Random) -> Vec<i64> {
+    let x = match n {
+        0 => 0,
+        _ => i64::from(entry(page, width, random.below(n))),
+    };
+    let power = 1i64 << width;
+    let mut all = vec![i64::MIN, i64::MIN + 1, -(1 << 32), -1, 0, 1];
+    all.extend([power - 1, power, power + x, x - power, (1 << 32) + x]);
+    all.extend([(1 << 31) - 1, 1 << 31, (1 << 32) - 1, 1 << 32]);
+    all.extend([x - 1, x, x + 1, i64::MAX - 1, i64::MAX]);
+    all.extend([x | i64::MIN, random.bits() as i64]);
+    all.push(random.below(power as usize) as i64);
+    all
+}

@@ -1,0 +1,97 @@
+//! Calls of the library, each compared with the second reader.
+
+use std::fmt::LowerHex;
+use std::io::{stdout, Write};
+
+use super::lent::{Filled, Lent, FILLINGS};
+use super::random::{seed, Random};
+use crate::raw::Answer;
+use crate::reader::Outcome;
+
+/// The calls of one test.
+pub struct Calls {
+    subject: &'static str,
+    made: usize,
+    pub random: Random,
+}
+
+impl Calls {
+    pub fn new(subject: &'static str) -> Calls {
+        Calls {
+            subject,
+            made: 0,
+            random: Random::new(subject),
+        }
+    }
+
+    /// Makes one call on places that hold `input` and `output`, and panics unless it answers `want`,
+    /// leaves what `want` says, and changes neither its input nor a guard. Gives what it left.
+    pub fn check<I: Filled, O: Filled + LowerHex>(
+        &mut self,
+        input: &[I],
+        output: &[O],
+        want: Outcome<O>,
+        call: impl FnOnce(&Lent<I>, &mut Lent<O>) -> Answer,
+        described: impl FnOnce() -> String,
+    ) -> Outcome<O> {
+        let guard = FILLINGS[self.made % FILLINGS.len()];
+        let shift = self.made / FILLINGS.len() % 8;
+        self.made += 1;
+        let input_place = Lent::new(input, guard, shift);
+        let mut output_place = Lent::new(output, guard, shift);
+        let Answer { code, number } = call(&input_place, &mut output_place);
+
+        let fault = if (code, number) != (want.code, want.number) {
+            format!("answered ({code}, {number})")
+        } else if input_place.held() != input {
+            "changed its input".to_string()
+        } else if !input_place.guards_kept() || !output_place.guards_kept() {
+            "wrote outside the place lent".to_string()
+        } else if let Some(i) = first_difference(output_place.held(), &want.held) {
+            format!("left {:x} in place {i}", output_place.held()[i])
+        } else {
+            return want;
+        };
+        self.report(&fault, &want, described())
+    }
+
+    /// Ends the test with all that is needed to make the failing call again.
+    fn report<O: LowerHex>(&self, fault: &str, want: &Outcome<O>, described: String) -> ! {
+        panic!(
+            "{}: call {} with CAHERMISK_SEED={:#x} {fault}\n  {described}\n  the rules: ({}, {}), leaving {}",
+            self.subject,
+            self.made,
+            seed(),
+            want.code,
+            want.number,
+            clipped(&want.held),
+        )
+    }
+
+    /// Says, past the test runner's capture, how many calls agreed.
+    pub fn finish(self) {
+        let line = format!(
+            "{}: {} calls answered as the second reader does (CAHERMISK_SEED={:#x})\n",
+            self.subject,
+            self.made,
+            seed()
+        );
+        stdout().write_all(line.as_bytes()).expect("stdout is open");
+    }
+}
+
+fn first_difference<T: PartialEq>(held: &[T], want: &[T]) -> Option<usize> {
+    held.iter().zip(want).position(|(h, w)| h != w)
+}
+
+/// A list in hexadecimal, its front alone where it is long: the seed makes all of it again.
+pub fn clipped<T: LowerHex>(list: &[T]) -> String {
+    const SHOWN: usize = 96;
+    let shown: Vec<String> = list
+        .iter()
+        .take(SHOWN)
+        .map(|x| format!("{x:02x}"))
+        .collect();
+    let more = if list.len() > SHOWN { " .." } else { "" };
+    format!("[{}{more}] ({})", shown.join(" "), list.len())
+}

@@ -1,0 +1,6 @@
+//! What the tests of all layouts share: numbers at random, places to lend, and the calls themselves.
+
+pub mod calls;
+pub mod fenced;
+pub mod lent;
+pub mod random;
