@@ -1,23 +1,22 @@
+-- `cahermisk::horizontal_pages::cahermisk_horizontal_scan` meets its contract: the constants come through the call as they are.
+use mir.Syntax.{w64}
+use mir.ValLaws.{toZ-ofZ}
 use borrow.Author.Needs.{needs}
 use Rattle.cahermisk.proofs.horizontal_pages.cahermisk_horizontal_scan.Statement.{
   statement,
 }
 use Rattle.cahermisk.proofs.horizontal_pages.cahermisk_horizontal_scan.Tie as tie
-use Rattle.cahermisk.proofs.horizontal_pages.cahermisk_horizontal_scan.Reads as reads
-use Rattle.cahermisk.proofs.horizontal_pages.cahermisk_horizontal_scan.Lts as lts
-use Rattle.horizontal.proofs.scanning.scan.Reads as scan-reads
 
--- src/horizontal_pages.rt:15:5
 scan-requires : tie.Need-scan-requires
 scan-requires c κs = search needs
 
--- src/horizontal_pages.rt:11:1
 same-length : tie.Need-same-length
 same-length c = search needs
 
--- src/horizontal_pages.rt:11:1
 returns : tie.Need-returns
-returns c = ?
+returns c =
+    let s = c .before .before .before .before .before .before in
+    rw (toZ-ofZ w64 (s .args .a) (s .fits .a), toZ-ofZ w64 (s .args .b) (s .fits .b)) at (c .before .before .scan .ensures)
 
 pub cahermisk-horizontal-scan-spec : {M : Type 1} → statement M
 cahermisk-horizontal-scan-spec = tie.close (tie.spec scan-requires same-length returns)
