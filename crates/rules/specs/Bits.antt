@@ -1,5 +1,5 @@
 -- Bits, bytes and entries: which bits an entry covers, and what number they spell.
-use mathlib.Core.Bool.{Bool, true, false}
+use mathlib.Core.Bool.{Bool, true, false, _||_}
 use mathlib.Core.List.{List, [], _∷_, _++_}
 use Prim.Native.Nat.{ℕ, zero, suc, _+_, _-_, _*_, _/_, _%_, _^_}
 use lib.ListN.{length, take, drop, getD}
@@ -12,6 +12,11 @@ ceil n d = (n + (d - 1)) / d
 unfoldable pub tabulate : {A : Type 0} → ℕ → (ℕ → A) → List A
 tabulate zero f = []
 tabulate (suc n) f = f zero ∷ tabulate n (λ k. f (suc k))
+
+-- does some number below n pass
+unfoldable pub someBelow : ℕ → (ℕ → Bool) → Bool
+someBelow zero test = false
+someBelow (suc n) test = test zero || someBelow n (λ k. test (suc k))
 
 -- the list with vs from place `at` on; every other place keeps what it held
 unfoldable pub put : {A : Type 0} → List A → ℕ → List A → List A

@@ -3,3 +3,4 @@ pub mod Comparison
 pub mod Bitmap
 pub mod Answer
 pub mod Horizontal
+pub mod Vertical
