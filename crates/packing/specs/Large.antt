@@ -11,7 +11,7 @@ use lib.Seq.{take-suc}
 use lib.Pow.{pow-pos}
 use lib.Bits.{bitOr, or-lt, or-add-and, and-le-l, and-le-r}
 use borrow.Author.Tests.{leb-true, leb-false, le-leb, lt-leb}
-use Rattle.rules.specs.Horizontal.{anyLarge}
+use Rattle.rules.specs.Answer.{anyLarge}
 use Rattle.words.specs.Joined.{Small}
 
 neither : (a b : Bool) → a || b ≡ false → (a ≡ false) × (b ≡ false)

@@ -10,7 +10,8 @@ use lib.Seq.{ext-getD}
 use lib.Pow.{pow-pos, pow-mono, shr-lt}
 use Rattle.rules.specs.Bits.{tabulate, joined, number, field, entry, entryByte}
 use Rattle.rules.specs.Bits.Order.{lowFirst}
-use Rattle.rules.specs.Horizontal.{anyLarge, packed, pageBytes, unused}
+use Rattle.rules.specs.Answer.{anyLarge}
+use Rattle.rules.specs.Horizontal.{packed, pageBytes, unused}
 use Rattle.words.specs.Bytes.{number-bytes, pow-256}
 use Rattle.words.specs.Entries.{field-number}
 use Rattle.words.specs.Joined.{Small, joined-lt, piece-lt}

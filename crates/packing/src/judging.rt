@@ -1,7 +1,7 @@
 // Are entries small enough for their width.
 ghost use mathlib.Core.Path.{_≡_};
 ghost use Prim.Native.Nat.{_≤_};
-ghost use Rattle.rules.specs.Horizontal.{anyLarge};
+ghost use Rattle.rules.specs.Answer.{anyLarge};
 
 // Is some entry not below 2^w: the bits of all entries together tell, so no entry is tested by itself.
 pub fn any_large(entries: &[u32], w: u32) -> bool

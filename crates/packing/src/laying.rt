@@ -5,7 +5,8 @@ ghost use Prim.Native.Nat.{_≤_};
 ghost use lib.ListN.{length};
 ghost use Rattle.rules.specs.Bits.{put};
 ghost use Rattle.rules.specs.Bits.Order.{lowFirst};
-ghost use Rattle.rules.specs.Horizontal.{anyLarge, packed, pageBytes};
+ghost use Rattle.rules.specs.Answer.{anyLarge};
+ghost use Rattle.rules.specs.Horizontal.{packed, pageBytes};
 use words::bits::append_at;
 
 // The page that the entries make, into its first bytes; the last byte's unused bits are 0.

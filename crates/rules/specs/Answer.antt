@@ -1,8 +1,8 @@
 -- The shape of every answer: what the code, the number and the lent places are. A layout gives its first fault and its entries.
-use mathlib.Core.Bool.{Bool, true, false}
-use mathlib.Core.List.{List}
-use Prim.Native.Nat.{ℕ, zero, suc}
-use lib.Dec.{ltb}
+use mathlib.Core.Bool.{Bool, true, false, _||_}
+use mathlib.Core.List.{List, [], _∷_}
+use Prim.Native.Nat.{ℕ, zero, suc, _^_}
+use lib.Dec.{ltb, leb}
 use lib.ListN.{length}
 use Rattle.rules.specs.Bits.{ceil, put}
 use Rattle.rules.specs.Bitmap.{bitmap, tally}
@@ -30,6 +30,15 @@ operatorFault op = faulty (ltb 7 op) 3
 -- 4: the output has fewer places than would be written
 unfoldable pub roomFault : ℕ → ℕ → ℕ
 roomFault places need = faulty (ltb places need) 4
+
+-- is some entry not below 2^w
+unfoldable pub anyLarge : ℕ → List ℕ → Bool
+anyLarge w [] = false
+anyLarge w (x ∷ xs) = leb (2 ^ w) x || anyLarge w xs
+
+-- 8
+unfoldable pub largeFault : ℕ → List ℕ → ℕ
+largeFault w entries = faulty (anyLarge w entries) 8
 
 -- acceptance with its number, and a refusal, whose number is 0
 abbrev pub accepted : ℕ → Answer

@@ -1,12 +1,11 @@
 -- Bare horizontal pages: entries of w bits end to end, over the bit order (lowest first; the older form has the highest first).
-use mathlib.Core.Bool.{Bool, true, false, not, _||_}
-use mathlib.Core.List.{List, [], _∷_}
-use Prim.Native.Nat.{ℕ, zero, suc, _+_, _*_, _-_, _^_}
+use mathlib.Core.List.{List}
+use Prim.Native.Nat.{ℕ, _*_, _-_}
 use lib.IntN.{ℤ, pos}
-use lib.Dec.{ltb, leb, eqb}
+use lib.Dec.{ltb}
 use lib.ListN.{length}
 use Rattle.rules.specs.Bits.{Order, field, entry, entryByte, ceil, tabulate}
-use Rattle.rules.specs.Answer.{faulty, _then_, limitFault, operatorFault, roomFault, Outcome, scanned, written}
+use Rattle.rules.specs.Answer.{faulty, _then_, limitFault, operatorFault, roomFault, largeFault, Outcome, scanned, written}
 use Rattle.rules.specs.Comparison.{holds}
 
 -- the page has exactly ceil(n × w / 8) bytes
@@ -38,11 +37,6 @@ unpack o page w n before =
     (limitFault w n then roomFault (length before) n then pageFault o page w n)
     (tabulate n (entry o page w)) before
 
--- is some entry not below 2^w
-unfoldable pub anyLarge : ℕ → List ℕ → Bool
-anyLarge w [] = false
-anyLarge w (x ∷ xs) = leb (2 ^ w) x || anyLarge w xs
-
 -- the page that entries of width w make, unused bits 0
 unfoldable pub packed : Order → ℕ → List ℕ → List ℕ
 packed o w entries = tabulate (pageBytes w (length entries)) (entryByte o w entries)
@@ -51,5 +45,5 @@ packed o w entries = tabulate (pageBytes w (length entries)) (entryByte o w entr
 unfoldable pub pack : Order → List ℕ → ℕ → List ℕ → Outcome ℕ
 pack o entries w before =
     written
-    (limitFault w (length entries) then faulty (anyLarge w entries) 8 then roomFault (length before) (pageBytes w (length entries)))
+    (limitFault w (length entries) then largeFault w entries then roomFault (length before) (pageBytes w (length entries)))
     (packed o w entries) before

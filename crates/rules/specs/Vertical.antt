@@ -6,9 +6,8 @@ use lib.IntN.{ℤ, pos}
 use lib.Dec.{ltb}
 use lib.ListN.{length, getD}
 use Rattle.rules.specs.Bits.{bit, word, ceil, tabulate, someBelow}
-use Rattle.rules.specs.Answer.{faulty, _then_, limitFault, operatorFault, roomFault, Outcome, scanned, written}
+use Rattle.rules.specs.Answer.{faulty, _then_, limitFault, operatorFault, roomFault, largeFault, Outcome, scanned, written}
 use Rattle.rules.specs.Comparison.{holds}
-use Rattle.rules.specs.Horizontal.{anyLarge}
 
 -- the column has exactly ceil(n/64) × w words
 abbrev pub pageWords : ℕ → ℕ → ℕ
@@ -60,5 +59,5 @@ packed w entries = tabulate (pageWords w (length entries)) (λ i. plane w entrie
 unfoldable pub pack : List ℕ → ℕ → List ℕ → Outcome ℕ
 pack entries w before =
     written
-    (limitFault w (length entries) then faulty (anyLarge w entries) 8 then roomFault (length before) (pageWords w (length entries)))
+    (limitFault w (length entries) then largeFault w entries then roomFault (length before) (pageWords w (length entries)))
     (packed w entries) before

@@ -5,9 +5,9 @@ use Prim.Native.Nat.{ℕ, _≤_}
 use native.Mathlib.Omega.{arith}
 use lib.ListN.{length}
 use borrow.Author.Needs.{needs}
-use Rattle.rules.specs.Answer.{_then_, faulty, limitFault, roomFault, accepted}
+use Rattle.rules.specs.Answer.{_then_, faulty, largeFault, limitFault, roomFault, accepted}
 use Rattle.rules.specs.Horizontal as Horizontal
-use Rattle.rules.specs.Horizontal.{anyLarge, pageBytes}
+use Rattle.rules.specs.Horizontal.{pageBytes}
 use Rattle.answers.specs.Laws.{then-found, then-none, within-limits, has-room, refused-is, accepted-is}
 use Rattle.packing.specs.Packed.{length-packed}
 use Rattle.horizontal.specs.Pages.{bits-le}
@@ -36,7 +36,7 @@ refused-requires-2 : tie.Need-refused-requires-2
 refused-requires-2 c κs = search needs
 
 returns-2 : tie.Need-returns-2
-unfolding Horizontal.pack
+unfolding Horizontal.pack largeFault
 returns-2 c =
     let s = c .before .before in
     let large = ap (λ t. faulty t 8) (sym (s .any-large .ensures) ∙ c .before .if2 .taken) in
@@ -54,7 +54,8 @@ room-fault-requires c κs = search needs
 
 -- all faults, in their order, come to the last code found
 faults : (c : tie.After-room-fault) → let a = c .before .before .before .before .before .before .before .args in
-    (limitFault (a .width) (length (a .entries .now)) then faulty (anyLarge (a .width) (a .entries .now)) 8 then roomFault (length (a .page .now)) (pageBytes (a .width) (length (a .entries .now)))) ≡ c .room-fault .result
+    (limitFault (a .width) (length (a .entries .now)) then largeFault (a .width) (a .entries .now) then roomFault (length (a .page .now)) (pageBytes (a .width) (length (a .entries .now)))) ≡ c .room-fault .result
+unfolding largeFault
 faults c =
     let s = c .before .before .before in
     then-none _ _ (sym (s .before .unsigned-fault .ensures) ∙ s .if1 .left)

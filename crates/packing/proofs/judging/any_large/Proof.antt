@@ -7,7 +7,7 @@ use lib.ListN.{length, take, getD}
 use lib.Seq.{take-all}
 use lib.Bits.{or-lt}
 use borrow.Author.Needs.{needs}
-use Rattle.rules.specs.Horizontal.{anyLarge}
+use Rattle.rules.specs.Answer.{anyLarge}
 use Rattle.words.specs.Bits.{one-shl}
 use Rattle.packing.specs.Large.{large-none, large-next}
 use Rattle.packing.proofs.judging.any_large.Statement.{statement}
