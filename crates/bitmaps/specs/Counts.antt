@@ -52,3 +52,9 @@ pub tally-le : (n : ℕ) (f : ℕ → Bool) → tally n f ≤ n
 unfolding tally
 tally-le zero f = omega arith
 tally-le (suc n) f = omega (arith, flag-lt (f zero), tally-le n (λ k. f (suc k)))
+
+-- tests that agree below n count alike
+pub tally-ext : (n : ℕ) {f g : ℕ → Bool} → ((k : ℕ) → k < n → f k ≡ g k) → tally n f ≡ tally n g
+unfolding tally
+tally-ext zero h = refl
+tally-ext (suc n) h = ap₂ (λ (x y : ℕ). x + y) (ap flag (h 0 (omega arith))) (tally-ext n (λ k l. h (suc k) (omega arith)))

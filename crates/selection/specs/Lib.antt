@@ -1,4 +1,4 @@
 pub mod Selected
 pub mod Groups
 pub mod Pages
-pub mod Comparisons
+pub mod Banded

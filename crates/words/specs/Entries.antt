@@ -10,7 +10,7 @@ use lib.Seq.{getD-take, getD-drop}
 use lib.Pow.{pow-mono}
 use Rattle.rules.specs.Bits.{bit, number, bitOf, bitAt, piece, field}
 use Rattle.rules.specs.Bits.Order.{lowFirst}
-use Rattle.words.specs.Joined.{Small, small-take, small-drop, joined-lt, piece-joined}
+use Rattle.words.specs.Joined.{Small, small-take, small-drop, joined-lt, piece-joined, piece-lt}
 
 pub field-number : (l : List ℕ) (k w : ℕ) → Small 8 l → field lowFirst l k w ≡ number l / 2 ^ k % 2 ^ w
 field-number l k w h = piece-joined 8 l k w (omega arith) h
@@ -53,3 +53,7 @@ field-drop l a o (suc w) =
     ap₂ (λ (x y : ℕ). x + y * 2)
     (ap₂ bit (getD-drop a l (o / 8) 0 ∙ ap (λ (i : ℕ). getD l i 0) byte) place)
     (field-drop l a (suc o) w ∙ ap (λ (i : ℕ). field lowFirst l i w) (omega arith))
+
+-- an entry within the widths is a number of 32 bits
+pub field-small : (page : List ℕ) (k w : ℕ) → w ≤ 32 → field lowFirst page k w < 4294967296
+field-small page k w h = lt-of-lt-of-le (piece-lt 8 page k w) (pow-mono {i = w} {j = 32} h)
