@@ -1,0 +1,11 @@
+-- That two results allowed by a contract are equal: for every function, since each contract is an equation of this shape.
+use mathlib.Core.Path.{_≡_}
+use mathlib.Core.List.{List}
+use Rattle.rules.specs.Answer.{Outcome}
+use Rattle.rules.specs.Answer.Outcome.{outcome}
+use Rattle.rules.specs.declared.Answer.{Answer}
+
+-- the answers are equal, and so is what the lent places hold afterwards
+pub equal : {A : Type 0} {allowed : Outcome A} {r₁ r₂ : Answer} {after₁ after₂ : List A}
+    → outcome r₁ after₁ ≡ allowed → outcome r₂ after₂ ≡ allowed → (r₁ ≡ r₂) × (after₁ ≡ after₂)
+equal one other = (cc, cc)

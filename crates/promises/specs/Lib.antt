@@ -1,0 +1,9 @@
+pub mod Equal
+pub mod Fronts
+pub mod Promise
+pub mod Scans
+pub mod Writes
+pub mod Faults
+pub mod HorizontalFaults
+pub mod Horizontal
+pub mod Examples
