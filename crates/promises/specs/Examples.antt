@@ -8,9 +8,9 @@ use Rattle.rules.specs.Bits.{tabulate, put, bit, word, bytes, bitOf, bitAt, pie
 use Rattle.rules.specs.Bits.Order.{lowFirst}
 use Rattle.rules.specs.Bitmap.{bitmap, tally}
 use Rattle.rules.specs.Comparison.{between, operators, holds}
-use Rattle.rules.specs.Answer.{_then_, limitFault, operatorFault, roomFault, accepted, answered, Outcome}
+use Rattle.rules.specs.Answer.{_then_, limitFault, operatorFault, roomFault, anyLarge, largeFault, accepted, answered, Outcome}
 use Rattle.rules.specs.Answer.Outcome.{outcome}
-use Rattle.rules.specs.Horizontal.{pageFault, anyLarge, packed}
+use Rattle.rules.specs.Horizontal.{pageFault, packed}
 use Rattle.rules.specs.Horizontal as Horizontal
 
 -- what the definition gives, and what the document says
@@ -60,6 +60,6 @@ rows =
 
 -- each definition gives what the document says
 pub examples : map (λ row. row .given) rows ≡ map (λ row. row .says) rows
-unfolding Horizontal.scan Horizontal.unpack Horizontal.pack pageFault anyLarge packed _then_ limitFault operatorFault roomFault answered
+unfolding Horizontal.scan Horizontal.unpack Horizontal.pack pageFault anyLarge largeFault packed _then_ limitFault operatorFault roomFault answered
     bitmap tally between operators holds tabulate put bit word bytes bitOf bitAt piece
 examples = refl

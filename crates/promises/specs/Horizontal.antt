@@ -9,9 +9,9 @@ use lib.ListN.{length, take}
 use Rattle.rules.specs.Bits.{ceil, tabulate, entry, entryByte, put}
 use Rattle.rules.specs.Bits.Order.{lowFirst}
 use Rattle.rules.specs.Comparison.{holds}
-use Rattle.rules.specs.Answer.{faulty, _then_, limitFault, operatorFault, roomFault, accepted}
+use Rattle.rules.specs.Answer.{faulty, _then_, limitFault, operatorFault, roomFault, anyLarge, largeFault, accepted}
 use Rattle.rules.specs.Answer.Outcome.{outcome}
-use Rattle.rules.specs.Horizontal.{pageFault, anyLarge, packed}
+use Rattle.rules.specs.Horizontal.{pageFault, packed}
 use Rattle.rules.specs.Horizontal as Horizontal
 use Rattle.rules.specs.declared.Answer.{Answer}
 use Rattle.words.specs.Joined.{Small}
@@ -57,7 +57,7 @@ module _ (entries : List ℕ) (w : ℕ) (before : List ℕ) {after : List ℕ} {
     (contract : outcome r after ≡ Horizontal.pack lowFirst entries w before) where
   -- pack: 1, 2, 8, 4; the number is ceil(n × w / 8), with the byte that the bits 8 × i to 8 × i + 7 of the entries spell in place i
   pub pack : Promise
-      (limitFault w (length entries) then faulty (anyLarge w entries) 8 then roomFault (length before) (ceil (length entries * w) 8))
+      (limitFault w (length entries) then largeFault w entries then roomFault (length before) (ceil (length entries * w) 8))
       before after r
       (Fills (ceil (length entries * w) 8) (entryByte lowFirst w entries) before after (r .number))
   unfolding Horizontal.pack packed

@@ -10,8 +10,8 @@ use lib.ListN.{length}
 use borrow.Author.Tests.{ltb-true, ltb-false}
 use Rattle.rules.specs.Bits.{ceil, bitAt, piece, field}
 use Rattle.rules.specs.Bits.Order.{lowFirst}
-use Rattle.rules.specs.Answer.{faulty, _then_, limitFault, operatorFault, roomFault}
-use Rattle.rules.specs.Horizontal.{pageBytes, unused, pageFault, anyLarge}
+use Rattle.rules.specs.Answer.{faulty, _then_, limitFault, operatorFault, roomFault, anyLarge, largeFault}
+use Rattle.rules.specs.Horizontal.{pageBytes, unused, pageFault}
 use Rattle.words.specs.Joined.{Small}
 use Rattle.packing.specs.Large.{small-of, large-of}
 use Rattle.promises.specs.Faults.{_and_, neither, no-fault, not-below, limits-kept, operator-known, room-enough}
@@ -78,10 +78,11 @@ module _ (page : List ℕ) (w n : ℕ) where
   unpack-good places = neither _ _ (limits-kept w n) (neither _ _ (room-enough places n) page-exact)
 
 -- 8
-entries-fit : (w : ℕ) (xs : List ℕ) → faulty (anyLarge w xs) 8 ≡ 0 ↔ Small w xs
+entries-fit : (w : ℕ) (xs : List ℕ) → largeFault w xs ≡ 0 ↔ Small w xs
+unfolding largeFault
 entries-fit w xs = Iff·trans (no-fault (anyLarge w xs) 8 (λ e. omega arith)) (small-of w xs, large-of w xs)
 
 pub pack-good : (xs : List ℕ) (w places : ℕ)
-    → (limitFault w (length xs) then faulty (anyLarge w xs) 8 then roomFault places (ceil (length xs * w) 8)) ≡ 0
+    → (limitFault w (length xs) then largeFault w xs then roomFault places (ceil (length xs * w) 8)) ≡ 0
     ↔ (w ≤ 32 and length xs ≤ 16384) and Small w xs and ceil (length xs * w) 8 ≤ places
 pack-good xs w places = neither _ _ (limits-kept w (length xs)) (neither _ _ (entries-fit w xs) (room-enough places (ceil (length xs * w) 8)))
