@@ -92,6 +92,15 @@ next-byte l g x f h e =
     set-put u g x (omega arith) ∙ ap (λ (y : ℕ). put u g (y ∷ [])) e ∙ ap (put u g) (sym (byte-bitmap (λ k. f (8 * g + k))))
     ∙ put-bitmap l g 8 f (omega arith) ∙ ap (λ (k : ℕ). put l 0 (bitmap k f)) more
 
+-- a word more: r entries behind g groups of 64
+pub next-word : (l : List ℕ) (g r x : ℕ) (f : ℕ → Bool) → 8 * g + ceil r 8 ≤ length l → x ≡ word r (λ k. f (64 * g + k))
+    → put (put l 0 (bitmap (64 * g) f)) (8 * g) (bytes (ceil r 8) x) ≡ put l 0 (bitmap (64 * g + r) f)
+unfolding bitmap
+next-word l g r x f h e =
+    let places : 8 * (8 * g) ≡ 64 * g = omega arith in
+    ap (λ (y : ℕ). put (put l 0 (bitmap (64 * g) f)) (8 * g) (bytes (ceil r 8) y)) e
+    ∙ rw (← places) (put-bitmap l (8 * g) r f h)
+
 -- a bitmap of p entries with m more put behind them is the bitmap of p + m
 pub appended-bitmap : (l : List ℕ) (p m : ℕ) (f : ℕ → Bool) → appended (put l 0 (bitmap p f)) p (word m (λ k. f (p + k))) m ≡ put l 0 (bitmap (p + m) f)
 unfolding bitmap

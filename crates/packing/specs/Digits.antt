@@ -10,7 +10,7 @@ use lib.Seq.{take-suc, length-take-le}
 use lib.Pow.{pow-add, shr-shr, high, low, mod-pow-add}
 use Rattle.rules.specs.Bits.{joined, number, bytes, tabulate}
 use Rattle.words.specs.Joined.{Small, joined-lt}
-use Rattle.packing.specs.Tabulated.{tabulate-ext}
+use Rattle.words.specs.Tabulated.{tabulate-ext}
 
 -- the first digit, and the digits behind it
 first-digit : (d x : ℕ) → x / 2 ^ (0 * d) ≡ x

@@ -1,4 +1,3 @@
-pub mod Tabulated
 pub mod Large
 pub mod Digits
 pub mod Packed

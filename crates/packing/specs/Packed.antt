@@ -2,7 +2,7 @@
 use mathlib.Core.Path.{_≡_, sym, ap, _∙_}
 use mathlib.Core.List.{List, []}
 use Prim.Native.Nat.{ℕ, zero, suc, _+_, _*_, _^_, _≤_, _<_}
-use native.Mathlib.Nat.{mul-zero, add-mul, one-mul, suc-mul, mul-le-mul-right}
+use native.Mathlib.Nat.{mul-zero, add-mul, one-mul}
 use native.Mathlib.Omega.{arith}
 use lib.ListN.{length, take, getD}
 use lib.Seq.{length-take-le}
@@ -11,7 +11,7 @@ use Rattle.rules.specs.Bits.Order.{lowFirst}
 use Rattle.rules.specs.Horizontal.{packed, pageBytes}
 use Rattle.words.specs.Joined.{Small, small-take, piece-joined}
 use Rattle.words.specs.Appended.{appended, appended-bits}
-use Rattle.packing.specs.Tabulated.{length-tabulate, tabulate-ext}
+use Rattle.words.specs.Tabulated.{length-tabulate, tabulate-ext}
 use Rattle.packing.specs.Digits.{digit, bytes-digits, joined-next, joined-below}
 
 pub length-packed : (o : Order) (w : ℕ) (xs : List ℕ) → length (packed o w xs) ≡ pageBytes w (length xs)
@@ -42,7 +42,3 @@ laid-next l xs w i h small =
     let size : length (take i xs) ≡ i = length-take-le i xs (omega arith) in
     let below : joined w (take i xs) < 2 ^ (i * w) = rw size at (joined-below w (take i xs) (small-take w i xs small)) in
     rw (joined-next w xs i h, add-mul, one-mul) (appended-bits l (i * w) w (joined w (take i xs)) (getD xs i 0) below)
-
--- the next of n entries ends where the last does, or before
-pub entry-within : (w i n : ℕ) → i < n → i * w + w ≤ n * w
-entry-within w i n h = rw (← (suc-mul i w)) (mul-le-mul-right w h)

@@ -15,7 +15,7 @@ use Rattle.rules.specs.Horizontal.{packed, pageBytes, unused}
 use Rattle.words.specs.Bytes.{number-bytes, pow-256}
 use Rattle.words.specs.Entries.{field-number}
 use Rattle.words.specs.Joined.{Small, joined-lt, piece-lt}
-use Rattle.packing.specs.Tabulated.{length-tabulate, getD-tabulate, tabulate-ext, small-tabulate}
+use Rattle.words.specs.Tabulated.{length-tabulate, getD-tabulate, tabulate-ext, small-tabulate}
 use Rattle.packing.specs.Large.{small-of, large-of}
 use Rattle.packing.specs.Digits.{digit, joined-below, joined-digit, joined-digits, bytes-number}
 use Rattle.packing.specs.Packed.{packed-joined}

@@ -15,7 +15,7 @@ use Rattle.rules.specs.Horizontal.{pageFault, packed}
 use Rattle.rules.specs.Horizontal as Horizontal
 use Rattle.rules.specs.declared.Answer.{Answer}
 use Rattle.words.specs.Joined.{Small}
-use Rattle.packing.specs.Tabulated.{length-tabulate}
+use Rattle.words.specs.Tabulated.{length-tabulate}
 use Rattle.packing.specs.Large.{small-of, large-of}
 use Rattle.packing.specs.Packed.{length-packed}
 use Rattle.packing.specs.RoundTrip.{entries-small, unpack-packed, unused-packed, pack-unpacked}

@@ -8,7 +8,7 @@ use Rattle.rules.specs.Bits.{put, tabulate}
 use Rattle.rules.specs.Answer.{accepted, answered, written}
 use Rattle.rules.specs.Answer.Outcome.{outcome}
 use Rattle.rules.specs.declared.Answer.{Answer}
-use Rattle.packing.specs.Tabulated.{length-tabulate, getD-tabulate}
+use Rattle.words.specs.Tabulated.{length-tabulate, getD-tabulate}
 use Rattle.promises.specs.Fronts.{front, behind}
 use Rattle.promises.specs.Promise.{Promise, promise}
 

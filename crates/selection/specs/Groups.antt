@@ -3,7 +3,7 @@ use mathlib.Core.Path.{_≡_, refl, sym, ap, ap₂, _∙_}
 use mathlib.Core.Bool.{Bool, true, false}
 use mathlib.Core.List.{List}
 use Prim.Native.Nat.{ℕ, zero, suc, _+_, _-_, _*_, _%_, _≤_, _<_}
-use native.Mathlib.Nat.{le-trans, le-of-eq, suc-mul, mul-le-mul-right, add-mul, mul-assoc, zero-mul, one-mul, mod-eq-of-lt}
+use native.Mathlib.Nat.{add-mul, mul-assoc, zero-mul, one-mul, mod-eq-of-lt}
 use native.Mathlib.Omega.{arith}
 use lib.Dec.{ltb}
 use lib.ListN.{length, set}
@@ -66,7 +66,3 @@ next-selected l page g w low span flip x h small whole e =
     ∙ turned-byte (λ j. inside low (low + span) (field lowFirst page (8 * (g * w) + j * w) w)) outside
     ∙ word-ext 8 (λ j l. ap test (places j)) in
     next-byte l g (bitXor x flip) (λ i. test (i * w)) h same
-
--- group g is one of m
-pub next-group : (w g m : ℕ) → g < m → g * w + w ≤ m * w
-next-group w g m h = le-trans (le-of-eq (sym (suc-mul g w))) (mul-le-mul-right w h)

@@ -12,7 +12,7 @@ use borrow.Author.Tests.{ltb-true, ltb-false}
 use Rattle.rules.specs.Bits.{ceil, put, field}
 use Rattle.rules.specs.Bits.Order.{lowFirst}
 use Rattle.rules.specs.Bitmap.{bitmap}
-use Rattle.words.specs.Puts.{part-rest, back-rest, put-part}
+use Rattle.words.specs.Puts.{part-put}
 use Rattle.words.specs.Entries.{field-ext, field-drop}
 use Rattle.bitmaps.specs.Bitmaps.{bitmap-ext, put-bitmap}
 use Rattle.bitmaps.specs.Trimmed.{trimmed, trimmed-bitmap}
@@ -74,9 +74,7 @@ module _ (l page : List ℕ) (w : ℕ) (test : ℕ → Bool) where
       let v : List ℕ = selected (drop (m * w) page) (8 * (q - m)) w test in
       let whole : m + (q - m) ≡ q = omega arith in
       let written : take m front ++ (rest ++ drop (length front - m) (drop m front)) ≡ put l 0 (selected page (8 * q) w test) =
-      back-rest front rest m
-      ∙ ap (λ (y : List ℕ). take m front ++ y) (er ∙ ap (λ (y : List ℕ). put y 0 v) (part-rest front m))
-      ∙ put-part front v m
+      part-put front rest v m er
       ∙ ap (λ (y : List ℕ). put y m v) ef
       ∙ two-pieces m (q - m) (omega arith)
       ∙ ap (λ (k : ℕ). put l 0 (selected page (8 * k) w test)) whole in

@@ -169,6 +169,15 @@ pub word-not : (n : ℕ) (f : ℕ → Bool) → 2 ^ n - 1 - word n f ≡ word n 
 word-not n f =
     word-of n _ (ones-sub-lt n (word n f)) (λ k l. rw (bit-not n k (word-lt n f) l, bit-word n f k l) (flag-not (f k)))
 
+-- no bit set, and every bit
+pub word-none : (n : ℕ) → word n (λ _. false) ≡ 0
+unfolding word
+word-none zero = refl
+word-none (suc n) = omega (arith, word-none n)
+
+pub word-all : (n : ℕ) → word n (λ _. true) ≡ 2 ^ n - 1
+word-all n = omega (arith, word-not n (λ _. false), word-none n)
+
 -- n bits and then m more
 pub word-add : (n m : ℕ) (f : ℕ → Bool) → word (n + m) f ≡ word n f + word m (λ k. f (n + k)) * 2 ^ n
 unfolding word

@@ -3,7 +3,7 @@ use mathlib.Core.Path.{_≡_, refl, sym, ap, ap₂, _∙_}
 use mathlib.Core.Bool.{Bool, true, false}
 use mathlib.Core.List.{List, [], _∷_, _++_}
 use Prim.Native.Nat.{ℕ, zero, suc, _+_, _-_, _*_, _/_, _%_, _^_, _≤_, _<_}
-use native.Mathlib.Nat.{lt-of-lt-of-le}
+use native.Mathlib.Nat.{lt-of-lt-of-le, suc-mul, mul-le-mul-right}
 use native.Mathlib.Omega.{arith}
 use lib.ListN.{length, take, drop, getD, length-drop}
 use lib.Seq.{getD-take, getD-drop}
@@ -57,3 +57,7 @@ field-drop l a o (suc w) =
 -- an entry within the widths is a number of 32 bits
 pub field-small : (page : List ℕ) (k w : ℕ) → w ≤ 32 → field lowFirst page k w < 4294967296
 field-small page k w h = lt-of-lt-of-le (piece-lt 8 page k w) (pow-mono {i = w} {j = 32} h)
+
+-- place i of n places of size w ends within them
+pub place-within : (w i n : ℕ) → i < n → i * w + w ≤ n * w
+place-within w i n h = rw (← (suc-mul i w)) (mul-le-mul-right w h)

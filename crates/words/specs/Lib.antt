@@ -4,3 +4,4 @@ pub mod Bytes
 pub mod Joined
 pub mod Entries
 pub mod Appended
+pub mod Tabulated

@@ -57,6 +57,11 @@ module _ {A : Type 0} where
   unfolding put
   put-part l vs a = rw (drop-drop, zero-add) (sym (append-assoc (take a l) vs (drop (a + length vs) l)))
 
+  -- a part that was lent from a on and came back with vs at its front
+  pub part-put : (l ys vs : List A) (a : ℕ) → ys ≡ put (take (length l - a) (drop a l)) 0 vs → take a l ++ (ys ++ drop (length l - a) (drop a l)) ≡ put l a vs
+  part-put l ys vs a e =
+      back-rest l ys a ∙ ap (λ (y : List A). take a l ++ y) (e ∙ ap (λ (y : List A). put y 0 vs) (part-rest l a)) ∙ put-part l vs a
+
   -- a list in place of a shorter one in front of what was behind it
   pub put-longer : (l b c : List A) (a : ℕ) → length b ≤ length c → put (b ++ drop (a + length b) l) 0 c ≡ c ++ drop (a + length c) l
   unfolding put

@@ -9,7 +9,7 @@ use Rattle.rules.specs.Answer.{_then_, limitFault, roomFault, accepted}
 use Rattle.rules.specs.Horizontal as Horizontal
 use Rattle.rules.specs.Horizontal.{pageFault}
 use Rattle.answers.specs.Laws.{then-found, then-none, then-zero, within-limits, has-room, refused-is, accepted-is}
-use Rattle.packing.specs.Tabulated.{length-tabulate}
+use Rattle.words.specs.Tabulated.{length-tabulate}
 use Rattle.horizontal.proofs.reading.unpack.Statement.{statement}
 use Rattle.horizontal.proofs.reading.unpack.Tie as tie
 

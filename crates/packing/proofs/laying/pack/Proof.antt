@@ -10,8 +10,9 @@ use Rattle.rules.specs.Bits.{put, bytes, joined}
 use Rattle.rules.specs.Bits.Order.{lowFirst}
 use Rattle.rules.specs.Horizontal.{packed, pageBytes}
 use Rattle.words.specs.Puts.{put-none}
+use Rattle.words.specs.Entries.{place-within}
 use Rattle.packing.specs.Large.{small-of}
-use Rattle.packing.specs.Packed.{packed-none, packed-joined, laid-next, entry-within}
+use Rattle.packing.specs.Packed.{packed-none, packed-joined, laid-next}
 use Rattle.packing.proofs.laying.pack.Statement.{statement}
 use Rattle.packing.proofs.laying.pack.Tie as tie
 
@@ -57,7 +58,7 @@ append-at-requires c κs =
       omega arith,
       omega (arith, c .before .before .before .before .if1 .left),
       omega (arith, small-of (a .w) (a .entries .now) (s .pre .2) (l .i)),
-      omega (arith, entry-within (a .w) (l .i) (length (a .entries .now)) (omega arith)),
+      omega (arith, place-within (a .w) (l .i) (length (a .entries .now)) (omega arith)),
     )
 
 add-i : tie.Need-add-i Inv-loop μ-loop

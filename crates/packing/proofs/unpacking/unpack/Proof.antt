@@ -8,7 +8,7 @@ use borrow.Author.Needs.{needs}
 use Rattle.rules.specs.Bits.{entry, put, tabulate}
 use Rattle.rules.specs.Bits.Order.{lowFirst}
 use Rattle.words.specs.Puts.{put-none}
-use Rattle.packing.specs.Tabulated.{put-tabulate}
+use Rattle.words.specs.Tabulated.{put-tabulate}
 use Rattle.packing.proofs.unpacking.unpack.Statement.{statement}
 use Rattle.packing.proofs.unpacking.unpack.Tie as tie
 

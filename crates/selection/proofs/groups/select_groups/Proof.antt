@@ -6,9 +6,10 @@ use native.Mathlib.Omega.{arith}
 use lib.ListN.{length, length-set}
 use Rattle.rules.specs.Bits.{word, put, field}
 use Rattle.rules.specs.Bits.Order.{lowFirst}
+use Rattle.words.specs.Entries.{place-within}
 use Rattle.compare.specs.Range.{inside}
 use Rattle.selection.specs.Selected.{selected, ranging}
-use Rattle.selection.specs.Groups.{none-selected, next-selected, next-group}
+use Rattle.selection.specs.Groups.{none-selected, next-selected}
 use Rattle.selection.proofs.groups.select_groups.Statement.{statement}
 use Rattle.selection.proofs.groups.select_groups.Tie as tie
 
@@ -28,7 +29,7 @@ loop-holds c =
 eight-requires : tie.Need-eight-requires Inv-loop μ-loop
 eight-requires c κs =
     let a = c .before .before .before .before .args in
-    omega (arith, next-group (a .w) (c .before .loop .g) (a .m) (omega arith))
+    omega (arith, place-within (a .w) (c .before .loop .g) (a .m) (omega arith))
 
 slice-write-bitmap : tie.Need-slice-write-bitmap Inv-loop μ-loop
 slice-write-bitmap c =
@@ -37,7 +38,7 @@ slice-write-bitmap c =
 add-at : tie.Need-add-at Inv-loop μ-loop
 add-at c =
     let a = c .before .before .before .before .before .args in
-    omega (arith, next-group (a .w) (c .before .before .loop .g) (a .m) (omega arith))
+    omega (arith, place-within (a .w) (c .before .before .loop .g) (a .m) (omega arith))
 
 add-g : tie.Need-add-g Inv-loop μ-loop
 add-g c =

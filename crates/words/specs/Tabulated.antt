@@ -1,15 +1,15 @@
--- The laws of `tabulate`: its length, its places, one place more.
+-- The laws of `tabulate`: its length, its places, places more.
 use mathlib.Core.Path.{_≡_, refl, sym, ap, ap₂, _∙_}
 use mathlib.Core.List.{List, [], _∷_, _++_}
-use Prim.Native.Nat.{ℕ, zero, suc, _+_, _^_, _<_}
-use native.Mathlib.Nat.{not-suc-le-zero}
+use Prim.Native.Nat.{ℕ, zero, suc, _+_, _^_, _≤_, _<_}
+use native.Mathlib.Nat.{not-suc-le-zero, zero-add, suc-add}
 use native.Mathlib.Numerals.{add-one}
 use native.Mathlib.Omega.{arith}
 use lib.ListN.{length, getD, set}
 use lib.Pow.{pow-pos}
 use Rattle.rules.specs.Bits.{put, tabulate}
 use Rattle.words.specs.Joined.{Small}
-use Rattle.words.specs.Puts.{put-snoc}
+use Rattle.words.specs.Puts.{put-put, put-snoc}
 
 module _ {A : Type 0} where
   pub length-tabulate : (n : ℕ) (f : ℕ → A) → length (tabulate n f) ≡ n
@@ -36,6 +36,22 @@ module _ {A : Type 0} where
   tabulate-ext zero f g h = refl
   tabulate-ext (suc n) f g h =
       ap₂ (λ (x : A) (l : List A). x ∷ l) (h zero (omega arith)) (tabulate-ext n (λ k. f (suc k)) (λ k. g (suc k)) (λ i l. h (suc i) (omega arith)))
+
+  -- n places and then m more
+  pub tabulate-add : (n m : ℕ) (f : ℕ → A) → tabulate (n + m) f ≡ tabulate n f ++ tabulate m (λ k. f (n + k))
+  unfolding tabulate
+  tabulate-add zero m f = simp zero-add
+  tabulate-add (suc n) m f = simp suc-add (ap (λ (l : List A). f zero ∷ l) (tabulate-add n m (λ k. f (suc k))))
+
+  -- n places are filled, and m more are put behind them
+  pub put-tabulate-add : (l : List A) (n m : ℕ) (f : ℕ → A) → n + m ≤ length l
+      → put (put l 0 (tabulate n f)) n (tabulate m (λ k. f (n + k))) ≡ put l 0 (tabulate (n + m) f)
+  put-tabulate-add l n m f h =
+      let u : List A = tabulate n f in
+      let v : List A = tabulate m (λ k. f (n + k)) in
+      let size : n ≡ 0 + length u = omega (arith, length-tabulate n f) in
+      ap (λ (k : ℕ). put (put l 0 u) k v) size ∙ put-put l u v 0 (omega (arith, length-tabulate n f, length-tabulate m (λ k. f (n + k))))
+      ∙ ap (put l 0) (sym (tabulate-add n m f))
 
   -- n places are filled, and one more is stored
   pub put-tabulate : (l : List A) (n : ℕ) (f : ℕ → A) → n < length l → set (put l 0 (tabulate n f)) n (f n) ≡ put l 0 (tabulate (n + 1) f)

@@ -1,0 +1,4 @@
+pub mod Lanes
+pub mod Planes
+pub mod Groups
+pub mod Columns

@@ -1,0 +1,3 @@
+// The transposition of one group of 64 entries between bit planes and places. Its laws stand in specs/.
+pub mod laying;
+pub mod unpacking;

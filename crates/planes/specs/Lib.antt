@@ -1,0 +1,5 @@
+pub mod Ends
+pub mod Digits
+pub mod Starts
+pub mod Steps
+pub mod Groups

@@ -1,0 +1,4 @@
+pub mod Unused
+pub mod Columns
+pub mod Chosen
+pub mod Groups

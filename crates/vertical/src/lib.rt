@@ -1,0 +1,6 @@
+// Bit planes: scan, unpack, pack.
+pub mod groups;
+pub mod judging;
+pub mod reading;
+pub mod scanning;
+pub mod writing;
