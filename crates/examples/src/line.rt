@@ -1,0 +1,119 @@
+// A line of text: laid out first, then written. What is past its 78 places is left out.
+ghost use Prim.Native.Nat.{_<_};
+use libc::STDOUT_FILENO;
+
+pub struct Line {
+    text: [u8; 78],
+    used: usize,
+}
+
+impl Line {
+    pub fn new() -> Line {
+        Line {
+            text: [b' '; 78],
+            used: 0,
+        }
+    }
+
+    fn place(self, b: u8) -> Line {
+        let at = self.used;
+        if 78 <= at {
+            return self;
+        }
+        let mut text = self.text;
+        text[at] = b;
+        Line {
+            text: text,
+            used: at + 1,
+        }
+    }
+
+    pub fn words(self, words: &[u8]) -> Line {
+        let mut line = self;
+        let mut i: usize = 0;
+        while i < words.len() {
+            line = line.place(words[i]);
+            i += 1;
+        }
+        line
+    }
+
+    pub fn number(self, n: u64) -> Line {
+        let mut digits = [0u8; 20];
+        let k = io::decimal(n, &mut digits);
+        self.words(&digits[..k])
+    }
+
+    // An entry, a blank before it.
+    fn entry(self, x: u32) -> Line {
+        self.place(b' ').number(x as u64)
+    }
+
+    // The first n entries of a list.
+    pub fn entries(self, list: &[u32], n: usize) -> Line {
+        let mut line = self;
+        let mut i: usize = 0;
+        while i < n && i < list.len() {
+            line = line.entry(list[i]);
+            i += 1;
+        }
+        line
+    }
+
+    // A byte in hexadecimal, a blank before it.
+    pub fn byte(self, b: u8) -> Line {
+        self.place(b' ').place(digit(b / 16)).place(digit(b % 16))
+    }
+
+    // The first n bytes of a list.
+    pub fn bytes(self, list: &[u8], n: usize) -> Line {
+        let mut line = self;
+        let mut i: usize = 0;
+        while i < n && i < list.len() {
+            line = line.byte(list[i]);
+            i += 1;
+        }
+        line
+    }
+
+    // What follows stands from place `at` on.
+    pub fn column(self, at: usize) -> Line {
+        if at <= self.used {
+            return self;
+        }
+        let text = self.text;
+        Line {
+            text: text,
+            used: at,
+        }
+    }
+
+    pub fn end(self) {
+        let text = self.text;
+        let all: &[u8; 78] = &text;
+        write_front(all, self.used);
+        io::write_all(STDOUT_FILENO, b"\n");
+    }
+}
+
+pub fn say(words: &[u8]) {
+    Line::new().words(words).end();
+}
+
+// Says what comes next, a blank line before it.
+pub fn topic(words: &[u8]) {
+    Line::new().end();
+    say(words);
+}
+
+fn digit(d: u8) -> u8
+    requires { ⌜ d < 16 ⌝ }
+{
+    if d < 10 { b'0' + d } else { b'A' - 10 + d }
+}
+
+fn write_front(text: &[u8], n: usize) {
+    if n <= text.len() {
+        io::write_all(STDOUT_FILENO, &text[0..n]);
+    }
+}
