@@ -1,12 +1,17 @@
 -- When a listed fault is not there, in plain conditions: the faults of several layouts.
 use mathlib.Core.Path.{_≡_}
 use mathlib.Core.Bool.{Bool, false}
+use mathlib.Core.List.{List}
 use mathlib.Core.Logic.{_↔_, Iff·and, Iff·trans}
 use Prim.Native.Nat.{ℕ, _≤_}
 use native.Mathlib.Omega.{arith}
 use lib.Dec.{ltb}
+use lib.ListN.{length}
 use borrow.Author.Tests.{ltb-false, le-ltb}
-use Rattle.rules.specs.Answer.{faulty, _then_, limitFault, operatorFault, roomFault}
+use Rattle.rules.specs.Bits.{ceil}
+use Rattle.rules.specs.Answer.{faulty, _then_, limitFault, operatorFault, roomFault, anyLarge, largeFault}
+use Rattle.words.specs.Joined.{Small}
+use Rattle.packing.specs.Large.{small-of, large-of}
 use Rattle.answers.specs.Laws.{then-none, then-zero, not-faulty}
 
 -- both hold
@@ -40,3 +45,26 @@ operator-known op = not-below 7 op 3 (λ e. omega arith)
 pub room-enough : (places need : ℕ) → roomFault places need ≡ 0 ↔ need ≤ places
 unfolding roomFault
 room-enough places need = not-below places need 4 (λ e. omega arith)
+
+-- 8
+entries-fit : (w : ℕ) (xs : List ℕ) → largeFault w xs ≡ 0 ↔ Small w xs
+unfolding largeFault
+entries-fit w xs = Iff·trans (no-fault (anyLarge w xs) 8 (λ e. omega arith)) (small-of w xs, large-of w xs)
+
+-- when a call of the two bare layouts finds no fault, over the page's own fault and what its absence says
+module _ {Exact : Type 0} (page : ℕ) (exact : page ≡ 0 ↔ Exact) (w n : ℕ) where
+  pub scan-good : (op places : ℕ)
+      → (limitFault w n then operatorFault op then roomFault places (ceil n 8) then page) ≡ 0
+      ↔ (w ≤ 32 and n ≤ 16384) and op ≤ 7 and ceil n 8 ≤ places and Exact
+  scan-good op places =
+      neither _ _ (limits-kept w n) (neither _ _ (operator-known op) (neither _ _ (room-enough places (ceil n 8)) exact))
+
+  pub unpack-good : (places : ℕ)
+      → (limitFault w n then roomFault places n then page) ≡ 0
+      ↔ (w ≤ 32 and n ≤ 16384) and n ≤ places and Exact
+  unpack-good places = neither _ _ (limits-kept w n) (neither _ _ (room-enough places n) exact)
+
+pub pack-good : (xs : List ℕ) (w places need : ℕ)
+    → (limitFault w (length xs) then largeFault w xs then roomFault places need) ≡ 0
+    ↔ (w ≤ 32 and length xs ≤ 16384) and Small w xs and need ≤ places
+pack-good xs w places need = neither _ _ (limits-kept w (length xs)) (neither _ _ (entries-fit w xs) (room-enough places need))

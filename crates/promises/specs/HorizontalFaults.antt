@@ -1,4 +1,4 @@
--- When a call on bare horizontal pages finds no fault, in plain conditions.
+-- When a bare horizontal page has no fault, in plain conditions.
 use mathlib.Core.Path.{_≡_, refl}
 use mathlib.Core.Bool.{Bool, true, false}
 use mathlib.Core.List.{List}
@@ -10,11 +10,8 @@ use lib.ListN.{length}
 use borrow.Author.Tests.{ltb-true, ltb-false}
 use Rattle.rules.specs.Bits.{ceil, bitAt, piece, field}
 use Rattle.rules.specs.Bits.Order.{lowFirst}
-use Rattle.rules.specs.Answer.{faulty, _then_, limitFault, operatorFault, roomFault, anyLarge, largeFault}
 use Rattle.rules.specs.Horizontal.{pageBytes, unused, pageFault}
-use Rattle.words.specs.Joined.{Small}
-use Rattle.packing.specs.Large.{small-of, large-of}
-use Rattle.promises.specs.Faults.{_and_, neither, no-fault, not-below, limits-kept, operator-known, room-enough}
+use Rattle.promises.specs.Faults.{_and_, neither, not-below}
 
 pub record Exact (page : List ℕ) (w n : ℕ) : Type 0 where
   -- the input has exactly ceil(n × w / 8) bytes
@@ -65,24 +62,3 @@ module _ (page : List ℕ) (w n : ℕ) where
       Iff·trans
       (neither _ _ (not-below _ _ 5 (λ e. omega arith)) (neither _ _ (not-below _ _ 6 (λ e. omega arith)) (not-below _ _ 7 (λ e. omega arith))))
       (Iff·trans (as-many (length page) (pageBytes w n) (unused lowFirst page w n)) exact)
-
-  pub scan-good : (op places : ℕ)
-      → (limitFault w n then operatorFault op then roomFault places (ceil n 8) then pageFault lowFirst page w n) ≡ 0
-      ↔ (w ≤ 32 and n ≤ 16384) and op ≤ 7 and ceil n 8 ≤ places and Exact page w n
-  scan-good op places =
-      neither _ _ (limits-kept w n) (neither _ _ (operator-known op) (neither _ _ (room-enough places (ceil n 8)) page-exact))
-
-  pub unpack-good : (places : ℕ)
-      → (limitFault w n then roomFault places n then pageFault lowFirst page w n) ≡ 0
-      ↔ (w ≤ 32 and n ≤ 16384) and n ≤ places and Exact page w n
-  unpack-good places = neither _ _ (limits-kept w n) (neither _ _ (room-enough places n) page-exact)
-
--- 8
-entries-fit : (w : ℕ) (xs : List ℕ) → largeFault w xs ≡ 0 ↔ Small w xs
-unfolding largeFault
-entries-fit w xs = Iff·trans (no-fault (anyLarge w xs) 8 (λ e. omega arith)) (small-of w xs, large-of w xs)
-
-pub pack-good : (xs : List ℕ) (w places : ℕ)
-    → (limitFault w (length xs) then largeFault w xs then roomFault places (ceil (length xs * w) 8)) ≡ 0
-    ↔ (w ≤ 32 and length xs ≤ 16384) and Small w xs and ceil (length xs * w) 8 ≤ places
-pack-good xs w places = neither _ _ (limits-kept w (length xs)) (neither _ _ (entries-fit w xs) (room-enough places (ceil (length xs * w) 8)))

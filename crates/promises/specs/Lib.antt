@@ -7,3 +7,6 @@ pub mod Faults
 pub mod HorizontalFaults
 pub mod Horizontal
 pub mod Examples
+pub mod Bare
+pub mod VerticalFaults
+pub mod Vertical

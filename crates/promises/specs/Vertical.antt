@@ -1,0 +1,41 @@
+-- Bit planes are a bare layout, and their three contracts are its. Entry i is bit i mod 64 of the w words of group i div 64, the first the highest.
+use mathlib.Core.Path.{_≡_, refl}
+use mathlib.Core.List.{List}
+use Prim.Native.Nat.{ℕ}
+use lib.IntN.{ℤ}
+use lib.ListN.{length}
+use Rattle.rules.specs.Vertical as Vertical
+use Rattle.packing.specs.Large.{small-of, large-of}
+use Rattle.lanes.specs.Columns.{length-packed, entries-small, unpack-packed, unused-packed, pack-unpacked}
+use Rattle.promises.specs.Bare.{Layout, scans, unpacks, packs}
+use Rattle.promises.specs.VerticalFaults.{Exact, exact, column-exact}
+
+abbrev pub vertical : Layout
+vertical =
+    record {
+      fault = Vertical.pageFault;
+      Exact = Exact;
+      exact = column-exact;
+      entry = Vertical.entry;
+      packed = Vertical.packed;
+      places = Vertical.pageWords;
+      bits = 64;
+      length-exact = λ words w n good. good .all-words;
+      length-packed = length-packed;
+      packed-exact = λ w xs small. exact (Vertical.packed w xs) w (length xs) .0 (length-packed w xs, unused-packed w xs (large-of w xs small));
+      packed-entries = λ w xs small. unpack-packed w xs (large-of w xs small);
+      entries-small = λ w n words. small-of w _ (entries-small w n words);
+      entries-packed = λ w n words fits good. let e = exact words w n .1 good in pack-unpacked w n words fits (e .0) (e .1);
+    }
+
+pub scan-is : (words : List ℕ) (w n op : ℕ) (a b : ℤ) (before : List ℕ) → Vertical.scan words w n op a b before ≡ scans vertical words w n op a b before
+unfolding Vertical.scan
+scan-is words w n op a b before = refl
+
+pub unpack-is : (words : List ℕ) (w n : ℕ) (before : List ℕ) → Vertical.unpack words w n before ≡ unpacks vertical words w n before
+unfolding Vertical.unpack
+unpack-is words w n before = refl
+
+pub pack-is : (entries : List ℕ) (w : ℕ) (before : List ℕ) → Vertical.pack entries w before ≡ packs vertical entries w before
+unfolding Vertical.pack
+pack-is entries w before = refl
