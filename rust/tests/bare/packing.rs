@@ -33,7 +33,7 @@ pub fn packs_with_every_room<L: Layout>() {
 pub fn an_entry_too_large<L: Layout>() {
     let mut calls = Calls::of::<L>("packs of an entry too large");
     for width in 0..32 {
-        for n in 1..=20 {
+        for n in (1..=20).chain([65, 129]) {
             let good = entries(Kind::Random, width, n, &mut calls.random);
             for place in 0..n {
                 for too_large in [1 << width, 1 << 31, u32::MAX, greatest(width) + 1] {
