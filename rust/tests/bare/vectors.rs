@@ -133,48 +133,50 @@ pub fn every_row<L: Layout>() {
     calls.finish();
 }
 
+/// A good row, ONE standing for the byte or word 1, and what makes it malformed: a part of it with what stands
+/// there instead.
+const GOOD: &str = "scan width 1 n 1 op 0 a 1 b 0 page ONE -> code 0 number 1 bitmap 01 .";
+const MALFORMED: [(&str, &str); 27] = [
+    ("scan", "skim"),
+    ("scan", ""),
+    ("width 1 ", ""),
+    ("width 1", "width"),
+    ("width 1", "width one"),
+    ("width 1", "width +1"),
+    ("width 1", "width 01"),
+    ("width 1", "width 4294967296"),
+    ("n 1", "n -1"),
+    ("a 1", "a 9223372036854775808"),
+    ("op 0 a 1", "a 1 op 0"),
+    (" page", "  page"),
+    ("page", "Page"),
+    ("ONE", "1"),
+    ("ONE", "0ONE"),
+    ("ONE", "ONE,"),
+    ("ONE", "."),
+    ("->", "=>"),
+    ("-> ", ""),
+    ("code 0 ", ""),
+    ("number 1 ", ""),
+    ("bitmap 01 .", "bitmap 1 ."),
+    ("bitmap 01 .", "bitmap 01 0g"),
+    ("bitmap 01 .", "bitmap 01 . "),
+    ("bitmap 01 .", "bitmap 01 -> 01"),
+    ("bitmap 01 .", "entries 1"),
+    (" bitmap 01 .", ""),
+];
+
 /// A row that is malformed in any place is an error, and no call is made of it.
 pub fn malformed_lines<L: Layout>() {
     let mut calls = Calls::of::<L>("vectors, malformed");
     let one = format!("{:0digits$X}", 1, digits = L::Unit::BITS / 4);
-    let good = format!("scan width 1 n 1 op 0 a 1 b 0 page {one} -> code 0 number 1 bitmap 01 .");
+    let good = GOOD.replace("ONE", &one);
     assert_eq!(call::<L>(&mut calls, &good), Ok(()));
-    let one_alone = format!("{one} ");
-    for (part, malformed) in [
-        ("scan", "skim"),
-        ("scan", ""),
-        ("width 1 ", ""),
-        ("width 1", "width"),
-        ("width 1", "width one"),
-        ("width 1", "width +1"),
-        ("width 1", "width 01"),
-        ("width 1", "width 4294967296"),
-        ("n 1", "n -1"),
-        ("a 1", "a 9223372036854775808"),
-        ("op 0 a 1", "a 1 op 0"),
-        (" page", "  page"),
-        ("page", "Page"),
-        (&one_alone, "1 "),
-        (&one_alone, &format!("0{one} ")),
-        (&one_alone, &format!("{one}, ")),
-        (&one_alone, ". "),
-        ("->", "=>"),
-        ("-> ", ""),
-        ("code 0 ", ""),
-        ("number 1 ", ""),
-        ("bitmap 01 .", "bitmap 1 ."),
-        ("bitmap 01 .", "bitmap 01 0g"),
-        ("bitmap 01 .", "bitmap 01 . "),
-        ("bitmap 01 .", "bitmap 01 -> 01"),
-        ("bitmap 01 .", "entries 1"),
-        (" bitmap 01 .", ""),
-    ] {
-        let bad = good.replacen(part, malformed, 1);
-        assert_ne!(bad, good, "'{part}' is not in the row");
-        assert!(
-            call::<L>(&mut calls, &bad).is_err(),
-            "taken for good: {bad}"
-        );
+    for (part, instead) in MALFORMED {
+        assert!(GOOD.contains(part), "'{part}' is not in the row");
+        let bad = GOOD.replacen(part, instead, 1).replace("ONE", &one);
+        let made = call::<L>(&mut calls, &bad);
+        assert!(made.is_err(), "taken for good: {bad}");
     }
     calls.finish();
 }
