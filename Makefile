@@ -10,7 +10,7 @@ help:
 	@echo 'make run     prove the examples program and what it stands on, and run it'
 	@echo 'make test    the gate: prove everything from nothing, then test the library just proved'
 	@echo 'make lib     prove the library and write target/staticlib/libcahermisk.a'
-	@echo 'make bench   the library, then its speed beside two Rust loops for the same job'
+	@echo 'make bench   the library, then its speed beside Rust loops for the same job'
 	@echo 'make clean   remove what was built (target/)'
 
 # Nothing is shown of the proofs unless one fails.

@@ -10,7 +10,8 @@
  *    and not null, also where that length is 0;
  *  - a place lent for writing overlaps no other place of the same call, and
  *    nothing else reads or writes it during the call.
- * A length counts elements (bytes of a page or bitmap, places for entries).
+ * A length counts elements (bytes of a page or bitmap, words of bit planes,
+ * places for entries).
  * The functions keep no state: threads may call them at the same time.
  */
 #ifndef CAHERMISK_H
@@ -61,7 +62,8 @@ enum cahermisk_operator {
 
 /*
  * The answer of every function. On acceptance the number is, for a scan, how
- * many bits of the bitmap are set; for unpack, n; for pack, the length written.
+ * many bits of the bitmap are set; for unpack, n; for pack, the length written,
+ * in bytes or, for bit planes, in words.
  */
 typedef struct {
     uint32_t code;
@@ -133,6 +135,68 @@ cahermisk_answer cahermisk_horizontal_unpack(const uint8_t *page, size_t page_le
 cahermisk_answer cahermisk_horizontal_pack(const uint32_t *entries, size_t entries_len,
                                            uint32_t width,
                                            uint8_t *page, size_t page_len);
+
+/* ---- Bit planes -------------------------------------------------------- */
+/*
+ * Entries are unsigned numbers of `width` bits, 0 to 32, in groups of 64. A group
+ * is `width` words of 64 bits, one for each bit of its entries, the most
+ * significant first; entry j of the group is bit j, lowest first, of each word.
+ * The last group is whole: its words have a lane also for each entry it lacks.
+ */
+
+/*
+ * Words of the planes of n entries of a width: exact for every width and count
+ * within the limits.
+ */
+#define CAHERMISK_VERTICAL_WORDS(width, n) (((size_t)(n) + 63) / 64 * (size_t)(width))
+
+/*
+ * Compares each entry of the planes, and sets bit i of the bitmap exactly if
+ * entry i satisfies the comparison.
+ * Reads the words; writes the first CAHERMISK_BITMAP_BYTES(n) bytes of the bitmap,
+ * the unused bits of the last one as 0, and keeps the later bytes.
+ * Refuses with the first of these that holds:
+ *   1  width above 32
+ *   2  n above 16,384
+ *   3  op above 7
+ *   4  bitmap_len below CAHERMISK_BITMAP_BYTES(n)
+ *   5  words_len below CAHERMISK_VERTICAL_WORDS(width, n)
+ *   6  words_len above it
+ *   7  a bit of the last group's words in a lane after the last entry is not 0
+ */
+cahermisk_answer cahermisk_vertical_scan(const uint64_t *words, size_t words_len,
+                                         uint32_t width, size_t n,
+                                         uint32_t op, int64_t a, int64_t b,
+                                         uint8_t *bitmap, size_t bitmap_len);
+
+/*
+ * Writes the n entries of the planes to the first n places of `entries`, and
+ * keeps the other places.
+ * Refuses with the first of these that holds:
+ *   1  width above 32
+ *   2  n above 16,384
+ *   4  entries_len below n
+ *   5  words_len below CAHERMISK_VERTICAL_WORDS(width, n)
+ *   6  words_len above it
+ *   7  a bit of the last group's words in a lane after the last entry is not 0
+ */
+cahermisk_answer cahermisk_vertical_unpack(const uint64_t *words, size_t words_len,
+                                           uint32_t width, size_t n,
+                                           uint32_t *entries, size_t entries_len);
+
+/*
+ * Packs all entries_len entries: writes the first
+ * CAHERMISK_VERTICAL_WORDS(width, entries_len) words, the lanes after the last
+ * entry as 0, and keeps the later words.
+ * Refuses with the first of these that holds:
+ *   1  width above 32
+ *   2  entries_len above 16,384
+ *   8  an entry is not below 2^width
+ *   4  words_len below CAHERMISK_VERTICAL_WORDS(width, entries_len)
+ */
+cahermisk_answer cahermisk_vertical_pack(const uint32_t *entries, size_t entries_len,
+                                         uint32_t width,
+                                         uint64_t *words, size_t words_len);
 
 #ifdef __cplusplus
 }

@@ -3,23 +3,18 @@
 //! Entry i takes the bits i × width to i × width + width − 1 of the page, bytes in order. A page of
 //! n entries has exactly ceil(n × width / 8) bytes, and the unused bits of the last one are 0.
 
-use crate::{ffi, Bitmap, Comparison, Refusal, MAX_ENTRIES, MAX_WIDTH};
+use crate::ffi::HORIZONTAL;
+use crate::{Bitmap, Comparison, Refusal};
 
-/// The bytes of a page of `n` entries. Past the limits it is the length at the limit: enough room
-/// for the library to say what is wrong with a call, whatever `n` and `width` are.
-fn page_room(width: u32, n: usize) -> usize {
-    (n.min(MAX_ENTRIES) * width.min(MAX_WIDTH) as usize).div_ceil(8)
+/// The bytes of the page of `n` entries.
+fn page_len(width: usize, n: usize) -> usize {
+    (n * width).div_ceil(8)
 }
 
 /// Compares the `n` entries of `page` and writes the selection to the first ceil(n / 8) bytes of
 /// `bitmap`; later bytes are kept. Gives the number of selected entries.
 ///
-/// # Errors
-///
-/// The first that holds of [`WidthAbove32`](Refusal::WidthAbove32),
-/// [`TooManyEntries`](Refusal::TooManyEntries), [`OutputTooShort`](Refusal::OutputTooShort),
-/// [`InputEndsTooEarly`](Refusal::InputEndsTooEarly), [`InputLeftOver`](Refusal::InputLeftOver),
-/// [`UnusedBitsNot0`](Refusal::UnusedBitsNot0).
+#[doc = include_str!("bare/reading.md")]
 ///
 /// # Examples
 ///
@@ -42,7 +37,7 @@ pub fn scan(
     comparison: Comparison,
     bitmap: &mut [u8],
 ) -> Result<usize, Refusal> {
-    ffi::horizontal_scan(page, width, n, comparison, bitmap)
+    HORIZONTAL.scan(page, width, n, comparison, bitmap)
 }
 
 /// Compares the `n` entries of `page`, and gives the selection as a new [`Bitmap`].
@@ -67,20 +62,13 @@ pub fn scan_to_bitmap(
     n: usize,
     comparison: Comparison,
 ) -> Result<Bitmap, Refusal> {
-    let mut bytes = vec![0; n.min(MAX_ENTRIES).div_ceil(8)];
-    let count = scan(page, width, n, comparison, &mut bytes)?;
-    Ok(Bitmap::new(bytes, n, count))
+    HORIZONTAL.scan_to_bitmap(page, width, n, comparison)
 }
 
 /// Writes the `n` entries of `page` to the first `n` places of `entries`; the others are kept.
 /// Gives `n`.
 ///
-/// # Errors
-///
-/// The first that holds of [`WidthAbove32`](Refusal::WidthAbove32),
-/// [`TooManyEntries`](Refusal::TooManyEntries), [`OutputTooShort`](Refusal::OutputTooShort),
-/// [`InputEndsTooEarly`](Refusal::InputEndsTooEarly), [`InputLeftOver`](Refusal::InputLeftOver),
-/// [`UnusedBitsNot0`](Refusal::UnusedBitsNot0).
+#[doc = include_str!("bare/reading.md")]
 ///
 /// # Examples
 ///
@@ -92,7 +80,7 @@ pub fn scan_to_bitmap(
 /// assert_eq!(entries, [0, 1, 2, 3, 4, 5, 6, 7, 99]);
 /// ```
 pub fn unpack(page: &[u8], width: u32, n: usize, entries: &mut [u32]) -> Result<usize, Refusal> {
-    ffi::horizontal_unpack(page, width, n, entries)
+    HORIZONTAL.unpack(page, width, n, entries)
 }
 
 /// Gives the `n` entries of `page` as a new `Vec`.
@@ -111,19 +99,13 @@ pub fn unpack(page: &[u8], width: u32, n: usize, entries: &mut [u32]) -> Result<
 /// # Ok::<(), cahermisk::Refusal>(())
 /// ```
 pub fn unpack_to_vec(page: &[u8], width: u32, n: usize) -> Result<Vec<u32>, Refusal> {
-    let mut entries = vec![0; n.min(MAX_ENTRIES)];
-    unpack(page, width, n, &mut entries)?;
-    Ok(entries)
+    HORIZONTAL.unpack_to_vec(page, width, n)
 }
 
 /// Packs all of `entries` to the front of `page`; the bytes after it are kept. Gives the number of
 /// bytes written, ceil(entries × width / 8).
 ///
-/// # Errors
-///
-/// The first that holds of [`WidthAbove32`](Refusal::WidthAbove32),
-/// [`TooManyEntries`](Refusal::TooManyEntries), [`ValueTooLarge`](Refusal::ValueTooLarge),
-/// [`OutputTooShort`](Refusal::OutputTooShort).
+#[doc = include_str!("bare/packing.md")]
 ///
 /// # Examples
 ///
@@ -136,7 +118,7 @@ pub fn unpack_to_vec(page: &[u8], width: u32, n: usize) -> Result<Vec<u32>, Refu
 /// assert_eq!(horizontal::pack(&[8], 3, &mut page), Err(Refusal::ValueTooLarge));
 /// ```
 pub fn pack(entries: &[u32], width: u32, page: &mut [u8]) -> Result<usize, Refusal> {
-    ffi::horizontal_pack(entries, width, page)
+    HORIZONTAL.pack(entries, width, page)
 }
 
 /// Packs all of `entries` to a new page.
@@ -155,7 +137,5 @@ pub fn pack(entries: &[u32], width: u32, page: &mut [u8]) -> Result<usize, Refus
 /// # Ok::<(), cahermisk::Refusal>(())
 /// ```
 pub fn pack_to_vec(entries: &[u32], width: u32) -> Result<Vec<u8>, Refusal> {
-    let mut page = vec![0; page_room(width, entries.len())];
-    pack(entries, width, &mut page)?;
-    Ok(page)
+    HORIZONTAL.pack_to_vec(entries, width, page_len)
 }

@@ -5,6 +5,7 @@
 //! [`Refusal`] and changes nothing that was lent to it.
 //!
 //! - [`horizontal`]: bare horizontal pages, entries of 0 to 32 bits laid end to end.
+//! - [`vertical`]: bit planes, entries of 0 to 32 bits in groups of 64, one word for each bit.
 //!
 //! A [`Comparison`] is an [`Operator`] and two constants; a scan's result is a [`Bitmap`].
 //!
@@ -22,12 +23,14 @@
 #![warn(missing_docs)]
 #![deny(unsafe_code)]
 
+mod bare;
 mod bitmap;
 mod comparison;
 mod ffi;
 pub mod horizontal;
 mod operator;
 mod refusal;
+pub mod vertical;
 
 pub use bitmap::Bitmap;
 pub use comparison::Comparison;

@@ -37,7 +37,7 @@ const NEEDS_CC: &str = "this test needs a C compiler, cc, on PATH";
 const NEEDS_CXX: &str = "this test needs a C++ compiler, c++, on PATH";
 
 /// The header's names with document 01's numbers.
-const NUMBERS: [(&str, u32); 20] = [
+const NUMBERS: [(&str, u32); 26] = [
     ("CAHERMISK_ACCEPTED", 0),
     ("CAHERMISK_WIDTH_ABOVE_32", 1),
     ("CAHERMISK_TOO_MANY_ENTRIES", 2),
@@ -58,6 +58,12 @@ const NUMBERS: [(&str, u32); 20] = [
     ("CAHERMISK_MAX_WIDTH", 32),
     ("CAHERMISK_MAX_ENTRIES", 16_384),
     ("sizeof(cahermisk_answer)", 8),
+    ("CAHERMISK_BITMAP_BYTES(9)", 2),
+    ("CAHERMISK_HORIZONTAL_BYTES(3, 9)", 4),
+    ("CAHERMISK_HORIZONTAL_BYTES(32, 16384)", 65_536),
+    ("CAHERMISK_VERTICAL_WORDS(2, 3)", 2),
+    ("CAHERMISK_VERTICAL_WORDS(3, 65)", 6),
+    ("CAHERMISK_VERTICAL_WORDS(32, 16384)", 8_192),
 ];
 
 /// Compiles a file that includes the header alone, twice, calls its functions and holds its numbers to ours.
@@ -82,6 +88,7 @@ const HEADER_USER: &str = "\
 #include <cahermisk.h>
 #include <cahermisk.h>
 static uint8_t page[CAHERMISK_HORIZONTAL_BYTES(3, 8)];
+static uint64_t words[CAHERMISK_VERTICAL_WORDS(3, 8)];
 static uint8_t bitmap[CAHERMISK_BITMAP_BYTES(8)];
 static uint32_t entries[CAHERMISK_MAX_ENTRIES];
 int all_ends_well(void);
@@ -90,8 +97,13 @@ int all_ends_well(void) {
     cahermisk_answer unpacked = cahermisk_horizontal_unpack(page, sizeof page, 3, 8, entries, 8);
     cahermisk_answer scanned = cahermisk_horizontal_scan(page, sizeof page, CAHERMISK_MAX_WIDTH, 8,
         CAHERMISK_NOT_BETWEEN, INT64_MIN, INT64_MAX, bitmap, sizeof bitmap);
+    cahermisk_answer planes = cahermisk_vertical_pack(entries, 8, 3, words, 3);
+    cahermisk_answer read = cahermisk_vertical_unpack(words, 3, 3, 8, entries, 8);
+    cahermisk_answer found = cahermisk_vertical_scan(words, 3, 3, 8,
+        CAHERMISK_LESS, 3, 0, bitmap, sizeof bitmap);
     return packed.code == CAHERMISK_ACCEPTED && unpacked.number == 8
-        && scanned.code != CAHERMISK_VALUE_TOO_LARGE;
+        && scanned.code != CAHERMISK_VALUE_TOO_LARGE
+        && planes.number == 3 && read.number == 8 && found.code == CAHERMISK_ACCEPTED;
 }
 ";
 

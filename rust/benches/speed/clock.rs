@@ -5,9 +5,6 @@ use std::time::Instant;
 pub const BATCHES: usize = 15;
 const CALLS: usize = 40;
 
-/// One way to do the job.
-pub type Way<'a> = &'a mut dyn FnMut();
-
 /// Nanoseconds an entry.
 #[derive(Clone, Copy)]
 pub struct Taken {
@@ -16,9 +13,9 @@ pub struct Taken {
 }
 
 /// The time of each way, in batches that take turns, so that a busy moment of the machine meets all alike.
-pub fn time<const N: usize>(entries: usize, mut ways: [Way; N]) -> [Taken; N] {
-    let mut taken = [[0.0; BATCHES]; N];
-    for way in &mut ways {
+pub fn time<F: FnMut()>(entries: usize, ways: &mut [F]) -> Vec<Taken> {
+    let mut taken = vec![[0.0; BATCHES]; ways.len()];
+    for way in &mut *ways {
         way(); // warms the caches
     }
     for batch in 0..BATCHES {
@@ -30,11 +27,12 @@ pub fn time<const N: usize>(entries: usize, mut ways: [Way; N]) -> [Taken; N] {
             taken[batch] = start.elapsed().as_nanos() as f64 / (CALLS * entries) as f64;
         }
     }
-    taken.map(|mut batches| {
+    let sorted = taken.into_iter().map(|mut batches| {
         batches.sort_by(f64::total_cmp);
         Taken {
             median: batches[BATCHES / 2],
             least: batches[0],
         }
-    })
+    });
+    sorted.collect()
 }

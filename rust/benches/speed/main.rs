@@ -2,8 +2,11 @@
 //! It prints and asserts nothing about time. A layout is a module here, with its own rows.
 
 mod clock;
+mod column;
 mod horizontal;
+mod race;
 mod table;
+mod vertical;
 
 fn main() {
     println!(
@@ -14,4 +17,5 @@ fn main() {
     );
     println!("A ratio is of speeds, by the medians: at 2.00 ours takes half the time.");
     horizontal::report();
+    vertical::report();
 }

@@ -1,7 +1,9 @@
 //! The second reader: the rules of document 01 over again, bit by bit and with no thought of speed.
 //! It is written from that document alone and shares no code with the library or the package.
 
+pub mod bare;
 pub mod horizontal;
+pub mod vertical;
 
 /// What a call must leave behind: its answer, and all that the place lent for writing holds.
 #[derive(Debug, PartialEq)]
@@ -31,24 +33,58 @@ pub fn accepted<T: Copy>(number: usize, written: &[T], lent: &[T]) -> Outcome<T>
     }
 }
 
-/// Bit i is bit i mod 8, lowest first, of byte i div 8.
-pub fn bit(bytes: &[u8], i: usize) -> bool {
-    (bytes[i / 8] >> (i % 8)) & 1 == 1
+/// What a page is a list of: bytes, or words of 64 bits.
+pub trait Unit: Copy {
+    const BITS: usize;
+
+    fn number(self) -> u64;
+
+    /// The unit of a number, of its lowest bits if it has more.
+    fn of(number: u64) -> Self;
 }
 
-/// The bytes in which the given bits stand, unused bits of the last one 0.
-pub fn bytes_of(bits: &[bool]) -> Vec<u8> {
-    let mut bytes = Vec::new();
-    for eight in bits.chunks(8) {
-        let mut byte = 0;
-        for (k, &set) in eight.iter().enumerate() {
+impl Unit for u8 {
+    const BITS: usize = 8;
+
+    fn number(self) -> u64 {
+        self.into()
+    }
+
+    fn of(number: u64) -> u8 {
+        number as u8
+    }
+}
+
+impl Unit for u64 {
+    const BITS: usize = 64;
+
+    fn number(self) -> u64 {
+        self
+    }
+
+    fn of(number: u64) -> u64 {
+        number
+    }
+}
+
+/// Bit k of a unit, lowest first.
+pub fn bit<U: Unit>(unit: U, k: usize) -> bool {
+    (unit.number() >> k) & 1 == 1
+}
+
+/// The units in which the given bits stand, lowest first, unused bits of the last one 0.
+pub fn units_of<U: Unit>(bits: &[bool]) -> Vec<U> {
+    let mut units = Vec::new();
+    for some in bits.chunks(U::BITS) {
+        let mut number = 0;
+        for (k, &set) in some.iter().enumerate() {
             if set {
-                byte += 1u8 << k;
+                number += 1u64 << k;
             }
         }
-        bytes.push(byte);
+        units.push(U::of(number));
     }
-    bytes
+    units
 }
 
 /// Whether x satisfies the comparison. All numbers are whole numbers.
@@ -66,8 +102,9 @@ pub fn satisfies(op: u32, x: i128, a: i128, b: i128) -> bool {
     }
 }
 
-/// A scan's answer: ceil(n/8) bytes, and the number of set bits.
+/// A scan's answer: ceil(n/8) bytes, bit i being bit i mod 8, lowest first, of byte i div 8, and the
+/// number of set bits.
 pub fn selection(selected: &[bool], bitmap: &[u8]) -> Outcome<u8> {
     let count = selected.iter().filter(|&&set| set).count();
-    accepted(count, &bytes_of(selected), bitmap)
+    accepted(count, &units_of(selected), bitmap)
 }

@@ -10,17 +10,17 @@ use crate::reader::Outcome;
 
 /// The calls of one test.
 pub struct Calls {
-    subject: &'static str,
+    subject: String,
     made: usize,
     pub random: Random,
 }
 
 impl Calls {
-    pub fn new(subject: &'static str) -> Calls {
+    pub fn new(subject: String) -> Calls {
         Calls {
-            subject,
             made: 0,
-            random: Random::new(subject),
+            random: Random::new(&subject),
+            subject,
         }
     }
 
@@ -68,16 +68,21 @@ impl Calls {
         )
     }
 
-    /// Says, past the test runner's capture, how many calls agreed.
+    /// Says how many calls agreed.
     pub fn finish(self) {
-        let line = format!(
-            "{}: {} calls answered as the second reader does (CAHERMISK_SEED={:#x})\n",
+        say(&format!(
+            "{}: {} calls answered as the second reader does (CAHERMISK_SEED={:#x})",
             self.subject,
             self.made,
             seed()
-        );
-        stdout().write_all(line.as_bytes()).expect("stdout is open");
+        ));
     }
+}
+
+/// Writes a line past the test runner's capture.
+pub fn say(line: &str) {
+    let line = format!("{line}\n");
+    stdout().write_all(line.as_bytes()).expect("stdout is open");
 }
 
 fn first_difference<T: PartialEq>(held: &[T], want: &[T]) -> Option<usize> {

@@ -18,6 +18,13 @@ const PRIVATE_ANONYMOUS: i32 = 0x22;
 /// A multiple of every machine's memory page, and room for the longest page of a column.
 const ROOM: usize = 1 << 17;
 
+/// Where the memory begins, and where it ends.
+#[derive(Clone, Copy)]
+pub enum Edge {
+    Start,
+    End,
+}
+
 /// Memory for one place, between two fences.
 pub struct Fenced {
     start: *mut u8,
@@ -35,18 +42,13 @@ impl Fenced {
         }
     }
 
-    /// A copy of the list that ends where the memory ends.
-    pub fn at_end<T: Copy>(&mut self, list: &[T]) -> *mut T {
-        self.copy(list, ROOM - std::mem::size_of_val(list))
-    }
-
-    /// A copy of the list that begins where the memory begins.
-    pub fn at_start<T: Copy>(&mut self, list: &[T]) -> *mut T {
-        self.copy(list, 0)
-    }
-
-    fn copy<T: Copy>(&mut self, list: &[T], at: usize) -> *mut T {
+    /// A copy of the list at an edge of the memory.
+    pub fn lay<T: Copy>(&mut self, edge: Edge, list: &[T]) -> *mut T {
         assert!(std::mem::size_of_val(list) <= ROOM);
+        let at = match edge {
+            Edge::Start => 0,
+            Edge::End => ROOM - std::mem::size_of_val(list),
+        };
         // SAFETY: the list fits between the fences at this place, which is aligned for it.
         unsafe {
             let place = self.start.add(ROOM + at).cast::<T>();

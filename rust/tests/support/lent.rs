@@ -22,6 +22,12 @@ impl Filled for u32 {
     }
 }
 
+impl Filled for u64 {
+    fn filled(with: u8) -> u64 {
+        u64::from_ne_bytes([with; 8])
+    }
+}
+
 pub struct Lent<T> {
     all: Vec<T>,
     front: usize,

@@ -2,6 +2,8 @@
 
 use std::env;
 
+use crate::reader::Unit;
+
 const SEED_VARIABLE: &str = "CAHERMISK_SEED";
 const SEED: u64 = 0x5EED_CA4E_2026_0001;
 
@@ -52,11 +54,7 @@ impl Random {
         from[self.below(from.len())]
     }
 
-    pub fn bytes(&mut self, len: usize) -> Vec<u8> {
-        let mut bytes = vec![0; len];
-        for eight in bytes.chunks_mut(8) {
-            eight.copy_from_slice(&self.bits().to_le_bytes()[..eight.len()]);
-        }
-        bytes
+    pub fn units<U: Unit>(&mut self, len: usize) -> Vec<U> {
+        (0..len).map(|_| U::of(self.bits())).collect()
     }
 }

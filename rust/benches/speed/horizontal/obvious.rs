@@ -31,14 +31,16 @@ pub fn scan(page: &[u8], width: u32, low: u32, high: u32, bitmap: &mut [u8]) -> 
     count
 }
 
-pub fn unpack(page: &[u8], width: u32, entries: &mut [u32]) {
+/// Unpacks and counts the entries.
+pub fn unpack(page: &[u8], width: u32, entries: &mut [u32]) -> usize {
     for (i, place) in entries.iter_mut().enumerate() {
         *place = entry(page, width, i);
     }
+    entries.len()
 }
 
-/// Packs the entries, and says whether all are below 2^width.
-pub fn pack(entries: &[u32], width: u32, page: &mut [u8]) -> bool {
+/// Packs the entries, and gives the length written if all are below 2^width.
+pub fn pack(entries: &[u32], width: u32, page: &mut [u8]) -> Option<usize> {
     let mut bits = 0u64;
     let mut held = 0;
     let mut at = 0;
@@ -56,6 +58,7 @@ pub fn pack(entries: &[u32], width: u32, page: &mut [u8]) -> bool {
     }
     if held > 0 {
         page[at] = bits as u8;
+        at += 1;
     }
-    u64::from(seen) >> width == 0
+    (u64::from(seen) >> width == 0).then_some(at)
 }

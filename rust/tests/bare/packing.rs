@@ -1,24 +1,24 @@
 //! Packing, and packing and unpacking one after the other.
 
+use super::layout::Layout;
 use super::pages::{entries, greatest, Kind, KINDS, LARGE_COUNTS, SMALL_COUNTS};
-use crate::reader::horizontal::{page_bytes, Pack, Unpack};
+use crate::reader::bare::{Pack, Unpack};
 use crate::support::calls::Calls;
-use crate::support::lent::FILLINGS;
+use crate::support::lent::{Filled, FILLINGS};
 
-#[test]
-fn packs_with_every_room() {
-    let mut calls = Calls::new("horizontal packs");
+pub fn packs_with_every_room<L: Layout>() {
+    let mut calls = Calls::of::<L>("packs");
     for width in 0..=32 {
         for n in SMALL_COUNTS {
             for kind in KINDS {
                 let entries = entries(kind, width, n, &mut calls.random);
-                let exact = page_bytes(width, n);
+                let exact = L::page_len(width, n);
                 for room in [0, exact.saturating_sub(1), exact, exact + 1, exact + 9] {
                     for filling in FILLINGS {
-                        let packed = calls.pack(&Pack {
+                        let packed = calls.pack::<L>(&Pack {
                             entries: &entries,
                             width,
-                            page: &vec![filling; room],
+                            page: &vec![L::Unit::filled(filling); room],
                         });
                         assert_eq!(packed.code, if room < exact { 4 } else { 0 });
                     }
@@ -30,21 +30,20 @@ fn packs_with_every_room() {
 }
 
 /// One entry is not below 2^width, by little or by much, at each place; with room and without.
-#[test]
-fn an_entry_too_large() {
-    let mut calls = Calls::new("horizontal packs of an entry too large");
+pub fn an_entry_too_large<L: Layout>() {
+    let mut calls = Calls::of::<L>("packs of an entry too large");
     for width in 0..32 {
-        for n in 1..=20 {
+        for n in (1..=20).chain([65, 129]) {
             let good = entries(Kind::Random, width, n, &mut calls.random);
             for place in 0..n {
                 for too_large in [1 << width, 1 << 31, u32::MAX, greatest(width) + 1] {
                     let mut bad = good.clone();
                     bad[place] = too_large;
-                    for room in [0, page_bytes(width, n), page_bytes(32, n)] {
-                        let packed = calls.pack(&Pack {
+                    for room in [0, L::page_len(width, n), L::page_len(32, n)] {
+                        let packed = calls.pack::<L>(&Pack {
                             entries: &bad,
                             width,
-                            page: &vec![0xA5; room],
+                            page: &vec![L::Unit::filled(0xA5); room],
                         });
                         assert_eq!(packed.code, 8);
                     }
@@ -55,20 +54,19 @@ fn an_entry_too_large() {
     calls.finish();
 }
 
-#[test]
-fn packs_at_random() {
-    let mut calls = Calls::new("horizontal packs at random");
-    for _ in 0..300_000 {
+pub fn packs_at_random<L: Layout>() {
+    let mut calls = Calls::of::<L>("packs at random");
+    for _ in 0..120_000 {
         let random = &mut calls.random;
         let width = random.below(34) as u32;
-        let n = random.below(80);
+        let n = random.below(200);
         let mut list = entries(Kind::Random, width.min(32), n, random);
         if n > 0 && random.once_in(6) {
             list[random.below(n)] = random.bits() as u32;
         }
-        let room = (page_bytes(width, n) + random.below(4)).saturating_sub(random.below(2));
-        let page = random.bytes(room);
-        calls.pack(&Pack {
+        let room = (L::page_len(width, n) + random.below(4)).saturating_sub(random.below(2));
+        let page = random.units(room);
+        calls.pack::<L>(&Pack {
             entries: &list,
             width,
             page: &page,
@@ -77,24 +75,23 @@ fn packs_at_random() {
     calls.finish();
 }
 
-/// Unpack gives back what was packed, and pack the bytes unpacked.
-#[test]
-fn round_trips() {
-    let mut calls = Calls::new("horizontal round trips");
+/// Unpack gives back what was packed, and pack the page unpacked.
+pub fn round_trips<L: Layout>() {
+    let mut calls = Calls::of::<L>("round trips");
     for width in 0..=32 {
         for n in SMALL_COUNTS.into_iter().chain(LARGE_COUNTS) {
             for kind in KINDS {
                 let entries = entries(kind, width, n, &mut calls.random);
-                let room = vec![0xFF; page_bytes(width, n)];
+                let room = vec![L::Unit::filled(0xFF); L::page_len(width, n)];
                 let pack = |calls: &mut Calls, entries: &[u32]| {
-                    calls.pack(&Pack {
+                    calls.pack::<L>(&Pack {
                         entries,
                         width,
                         page: &room,
                     })
                 };
                 let page = pack(&mut calls, &entries).held;
-                let unpacked = calls.unpack(&Unpack {
+                let unpacked = calls.unpack::<L>(&Unpack {
                     page: &page,
                     width,
                     n,

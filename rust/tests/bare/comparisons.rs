@@ -1,19 +1,21 @@
 //! Good pages under all comparisons.
 
+use super::layout::Layout;
 use super::pages::{constants, page, Kind, KINDS, LARGE_COUNTS, SMALL_COUNTS};
-use crate::reader::horizontal::Scan;
+use crate::reader::bare::Scan;
+use crate::reader::Unit;
 use crate::support::calls::Calls;
 use crate::support::lent::FILLINGS;
 
 /// All operators with all constants: each a for operators 0 to 5, each pair for 6 and 7.
-fn compare_in_all_ways(calls: &mut Calls, page: &[u8], width: u32, n: usize) {
-    let constants = constants(page, width, n, &mut calls.random);
+fn compare_in_all_ways<L: Layout>(calls: &mut Calls, page: &[L::Unit], width: u32, n: usize) {
+    let constants = constants::<L>(page, width, n, &mut calls.random);
     let bitmap = vec![FILLINGS[n % FILLINGS.len()]; n.div_ceil(8) + n % 3];
     for &a in &constants {
         for &b in &constants {
             let operators = if a == b { 0..=7 } else { 6..=7 };
             for op in operators {
-                calls.scan(&Scan {
+                calls.scan::<L>(&Scan {
                     page,
                     width,
                     n,
@@ -27,29 +29,27 @@ fn compare_in_all_ways(calls: &mut Calls, page: &[u8], width: u32, n: usize) {
     }
 }
 
-#[test]
-fn small_pages_under_every_comparison() {
-    let mut calls = Calls::new("horizontal scans of small pages");
+pub fn small_pages_under_every_comparison<L: Layout>() {
+    let mut calls = Calls::of::<L>("scans of small pages");
     for width in 0..=32 {
         for n in SMALL_COUNTS {
             for kind in KINDS {
-                let page = page(kind, width, n, &mut calls.random);
-                compare_in_all_ways(&mut calls, &page, width, n);
+                let page = page::<L>(kind, width, n, &mut calls.random);
+                compare_in_all_ways::<L>(&mut calls, &page, width, n);
             }
         }
     }
     calls.finish();
 }
 
-#[test]
-fn large_pages() {
-    let mut calls = Calls::new("horizontal scans of large pages");
+pub fn large_pages<L: Layout>() {
+    let mut calls = Calls::of::<L>("scans of large pages");
     for width in 0..=32 {
         for n in LARGE_COUNTS {
-            let page = page(Kind::Random, width, n, &mut calls.random);
+            let page = page::<L>(Kind::Random, width, n, &mut calls.random);
             for op in 0..=7 {
-                let constants = constants(&page, width, n, &mut calls.random);
-                let bitmap = calls.random.bytes(n.div_ceil(8) + 3);
+                let constants = constants::<L>(&page, width, n, &mut calls.random);
+                let bitmap = calls.random.units(n.div_ceil(8) + 3);
                 let call = Scan {
                     page: &page,
                     width,
@@ -59,7 +59,7 @@ fn large_pages() {
                     b: calls.random.pick(&constants),
                     bitmap: &bitmap,
                 };
-                calls.scan(&call);
+                calls.scan::<L>(&call);
             }
         }
     }
@@ -67,15 +67,14 @@ fn large_pages() {
 }
 
 /// Operators 0 to 5 ignore b: any b gives what b = 0 gives.
-#[test]
-fn operators_0_to_5_ignore_b() {
-    let mut calls = Calls::new("horizontal scans with a b to ignore");
-    let page = page(Kind::Ascending, 7, 100, &mut calls.random);
+pub fn operators_0_to_5_ignore_b<L: Layout>() {
+    let mut calls = Calls::of::<L>("scans with a b to ignore");
+    let page = page::<L>(Kind::Ascending, 7, 100, &mut calls.random);
     let bitmap = [0xA5; 13];
     for op in 0..=5 {
         for a in [-1, 0, 50, 99, 127, 128] {
             let mut with_b = |b| {
-                calls.scan(&Scan {
+                calls.scan::<L>(&Scan {
                     page: &page,
                     width: 7,
                     n: 100,
@@ -95,41 +94,40 @@ fn operators_0_to_5_ignore_b() {
 }
 
 /// Any mixture of widths, counts, operators, constants, good and faulty pages.
-#[test]
-fn scans_at_random() {
-    let mut calls = Calls::new("horizontal scans at random");
-    for _ in 0..600_000 {
+pub fn scans_at_random<L: Layout>() {
+    let mut calls = Calls::of::<L>("scans at random");
+    for _ in 0..250_000 {
         let random = &mut calls.random;
         let width = random.below(33) as u32;
-        let n = random.below(80);
-        let mut page = page(Kind::Random, width, n, random);
+        let n = random.below(200);
+        let mut page = page::<L>(Kind::Random, width, n, random);
         if random.once_in(8) {
             let len = random.below(page.len() + 3);
-            page.resize(len, 0);
+            page.resize(len, L::Unit::of(0));
         }
         if let (true, Some(last)) = (random.once_in(8), page.last_mut()) {
-            *last = random.bits() as u8;
+            *last = L::Unit::of(random.bits());
         }
         let room = (n.div_ceil(8) + random.below(4)).saturating_sub(random.below(2));
-        let bitmap = random.bytes(room);
-        let constants = constants(&page_of_length(&page, width, n), width, n, random);
+        let bitmap = random.units(room);
+        let constants = constants::<L>(&page_of_length::<L>(&page, width, n), width, n, random);
         let call = Scan {
             page: &page,
             width,
             n,
-            op: random.below(if n == 64 { 9 } else { 8 }) as u32,
+            op: random.below(if n.is_multiple_of(64) { 9 } else { 8 }) as u32,
             a: random.pick(&constants),
             b: random.pick(&constants),
             bitmap: &bitmap,
         };
-        calls.scan(&call);
+        calls.scan::<L>(&call);
     }
     calls.finish();
 }
 
 /// The page as its entries can be read: of the right length, whatever was cut or added.
-fn page_of_length(page: &[u8], width: u32, n: usize) -> Vec<u8> {
+fn page_of_length<L: Layout>(page: &[L::Unit], width: u32, n: usize) -> Vec<L::Unit> {
     let mut whole = page.to_vec();
-    whole.resize((n * width as usize).div_ceil(8), 0);
+    whole.resize(L::page_len(width, n), L::Unit::of(0));
     whole
 }

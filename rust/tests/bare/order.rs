@@ -1,7 +1,10 @@
 //! Where several codes could be given, the first in document 01's order is.
 
-use crate::reader::horizontal::{Pack, Scan, Unpack};
+use super::layout::Layout;
+use crate::reader::bare::{Pack, Scan, Unpack};
+use crate::reader::Unit;
 use crate::support::calls::Calls;
+use crate::support::lent::Filled;
 
 /// A reading call with any set of faults in it.
 #[derive(Clone, Copy, Debug)]
@@ -56,27 +59,29 @@ impl Faults {
         }
     }
 
-    /// The bytes of 9 entries of width 3, with what is wrong with them.
-    fn page(self) -> Vec<u8> {
-        let mut page = vec![0x88, 0xC6, 0xFA, if self.unused { 0x40 } else { 0x05 }];
+    /// The page of 9 entries of width 3, with what is wrong with it.
+    fn page<L: Layout>(self) -> Vec<L::Unit> {
+        let mut page = L::page_of(&[0, 1, 2, 3, 4, 5, 6, 7, 5], 3);
+        if let (true, Some((at, k))) = (self.unused, L::unused_bits(3, 9).pop()) {
+            page[at] = L::Unit::of(page[at].number() | 1 << k);
+        }
         match self.page {
             PageFault::None => {}
             PageFault::EndsEarly => drop(page.remove(0)),
-            PageFault::LeftOver => page.push(0),
+            PageFault::LeftOver => page.push(L::Unit::of(0)),
         }
         page
     }
 }
 
-#[test]
-fn scans_and_unpacks_with_any_set_of_faults() {
-    let mut calls = Calls::new("horizontal codes in order");
+pub fn scans_and_unpacks_with_any_set_of_faults<L: Layout>() {
+    let mut calls = Calls::of::<L>("codes in order");
     for faults in Faults::all() {
-        let page = faults.page();
+        let page = faults.page::<L>();
         let width = if faults.width { 33 } else { 3 };
         let n = if faults.count { 16_385 } else { 9 };
         let enough = if faults.count { 2049 } else { 2 };
-        let scanned = calls.scan(&Scan {
+        let scanned = calls.scan::<L>(&Scan {
             page: &page,
             width,
             n,
@@ -86,7 +91,7 @@ fn scans_and_unpacks_with_any_set_of_faults() {
             bitmap: &vec![0xA5; enough - usize::from(faults.short)],
         });
         assert_eq!(scanned.code, faults.code(true), "scan with {faults:?}");
-        let unpacked = calls.unpack(&Unpack {
+        let unpacked = calls.unpack::<L>(&Unpack {
             page: &page,
             width,
             n,
@@ -97,20 +102,19 @@ fn scans_and_unpacks_with_any_set_of_faults() {
     calls.finish();
 }
 
-#[test]
-fn packs_with_any_set_of_faults() {
-    let mut calls = Calls::new("horizontal codes of packs in order");
+pub fn packs_with_any_set_of_faults<L: Layout>() {
+    let mut calls = Calls::of::<L>("codes of packs in order");
     for set in 0..16u32 {
         let [width, count, entry, short] = [1, 2, 4, 8].map(|fault| set & fault != 0);
         let mut entries = vec![1; if count { 16_385 } else { 9 }];
         if entry {
             entries[8] = 8;
         }
-        let enough = (entries.len() * 3).div_ceil(8);
-        let packed = calls.pack(&Pack {
+        let enough = L::page_len(3, entries.len());
+        let packed = calls.pack::<L>(&Pack {
             entries: &entries,
             width: if width { 33 } else { 3 },
-            page: &vec![0xA5; enough - usize::from(short)],
+            page: &vec![L::Unit::filled(0xA5); enough - usize::from(short)],
         });
         let order = [(width, 1), (count, 2), (entry, 8), (short, 4)];
         let first = order.iter().find(|(fault, _)| *fault);
@@ -121,20 +125,19 @@ fn packs_with_any_set_of_faults() {
 }
 
 /// Arguments are judged also where there is nothing to read or write.
-#[test]
-fn no_entries() {
-    let mut calls = Calls::new("horizontal calls of no entries");
-    for (width, op, page, code) in [
-        (3, 2, &[][..], 0),
-        (33, 8, &[], 1),
-        (3, 8, &[], 3),
-        (3, 2, &[0], 6),
-        (0, 2, &[0], 6),
-        (32, 7, &[], 0),
+pub fn no_entries<L: Layout>() {
+    let mut calls = Calls::of::<L>("calls of no entries");
+    for (width, op, len, code) in [
+        (3, 2, 0, 0),
+        (33, 8, 0, 1),
+        (3, 8, 0, 3),
+        (3, 2, 1, 6),
+        (0, 2, 1, 6),
+        (32, 7, 0, 0),
     ] {
         for room in [0, 1] {
-            let scanned = calls.scan(&Scan {
-                page,
+            let scanned = calls.scan::<L>(&Scan {
+                page: &vec![L::Unit::of(0); len],
                 width,
                 n: 0,
                 op,
@@ -142,10 +145,13 @@ fn no_entries() {
                 b: 0,
                 bitmap: &vec![0xA5; room],
             });
-            assert_eq!(scanned.code, code, "width {width}, operator {op}, {page:?}");
+            assert_eq!(
+                scanned.code, code,
+                "width {width}, operator {op}, length {len}"
+            );
         }
     }
-    let packed = calls.pack(&Pack {
+    let packed = calls.pack::<L>(&Pack {
         entries: &[],
         width: 33,
         page: &[],
@@ -155,13 +161,13 @@ fn no_entries() {
 }
 
 /// At width 0 the page is empty whatever n is.
-#[test]
-fn width_0() {
-    let mut calls = Calls::new("horizontal calls of width 0");
+pub fn width_0<L: Layout>() {
+    let mut calls = Calls::of::<L>("calls of width 0");
     for n in [0, 1, 8, 16_384] {
         for (page, code) in [(&[][..], 0), (&[0], 6), (&[1], 6)] {
-            let scanned = calls.scan(&Scan {
-                page,
+            let page: Vec<L::Unit> = page.iter().copied().map(L::Unit::of).collect();
+            let scanned = calls.scan::<L>(&Scan {
+                page: &page,
                 width: 0,
                 n,
                 op: 3,
@@ -173,7 +179,7 @@ fn width_0() {
         }
     }
     for (entry, code) in [(0, 0), (1, 8), (u32::MAX, 8)] {
-        let packed = calls.pack(&Pack {
+        let packed = calls.pack::<L>(&Pack {
             entries: &[0, entry],
             width: 0,
             page: &[],

@@ -1,19 +1,24 @@
-//! The three functions, called beside the second reader.
+//! The three functions of a bare layout, called beside the second reader.
 
-use crate::raw;
-use crate::reader::horizontal::{pack, scan, unpack, Pack, Scan, Unpack};
+use super::layout::Layout;
+use crate::reader::bare::{pack, scan, unpack, Pack, Scan, Unpack};
 use crate::reader::Outcome;
 use crate::support::calls::{clipped, Calls};
 
 impl Calls {
-    pub fn scan(&mut self, call: &Scan) -> Outcome<u8> {
+    /// The calls of one test of a layout.
+    pub fn of<L: Layout>(subject: &str) -> Calls {
+        Calls::new(format!("{} {subject}", L::NAME))
+    }
+
+    pub fn scan<L: Layout>(&mut self, call: &Scan<L::Unit>) -> Outcome<u8> {
         self.check(
             call.page,
             call.bitmap,
-            scan(call),
-            // SAFETY: both places are valid for their lengths, and stand apart.
+            scan::<L>(call),
+            // SAFETY: both places are valid for their lengths, aligned, and stand apart.
             |page, bitmap| unsafe {
-                raw::cahermisk_horizontal_scan(
+                (L::SCAN)(
                     page.ptr(),
                     page.len(),
                     call.width,
@@ -40,14 +45,14 @@ impl Calls {
         )
     }
 
-    pub fn unpack(&mut self, call: &Unpack) -> Outcome<u32> {
+    pub fn unpack<L: Layout>(&mut self, call: &Unpack<L::Unit>) -> Outcome<u32> {
         self.check(
             call.page,
             call.entries,
-            unpack(call),
+            unpack::<L>(call),
             // SAFETY: both places are valid for their lengths, aligned, and stand apart.
             |page, entries| unsafe {
-                raw::cahermisk_horizontal_unpack(
+                (L::UNPACK)(
                     page.ptr(),
                     page.len(),
                     call.width,
@@ -68,14 +73,14 @@ impl Calls {
         )
     }
 
-    pub fn pack(&mut self, call: &Pack) -> Outcome<u8> {
+    pub fn pack<L: Layout>(&mut self, call: &Pack<L::Unit>) -> Outcome<L::Unit> {
         self.check(
             call.entries,
             call.page,
-            pack(call),
+            pack::<L>(call),
             // SAFETY: both places are valid for their lengths, aligned, and stand apart.
             |entries, page| unsafe {
-                raw::cahermisk_horizontal_pack(
+                (L::PACK)(
                     entries.ptr(),
                     entries.len(),
                     call.width,

@@ -1,9 +1,11 @@
 //! Widths, counts and operators within and beyond the limits, also ones that look good once they are cut.
 
-use crate::reader::horizontal::{page_bytes, Pack, Scan, Unpack};
+use super::layout::Layout;
+use crate::reader::bare::{Pack, Scan, Unpack};
 use crate::support::calls::Calls;
+use crate::support::lent::Filled;
 
-const COUNTS: [usize; 15] = [
+const COUNTS: [usize; 17] = [
     0,
     1,
     7,
@@ -13,6 +15,8 @@ const COUNTS: [usize; 15] = [
     64,
     65,
     127,
+    128,
+    129,
     1000,
     16_383,
     16_384,
@@ -43,22 +47,21 @@ fn cut(width: u32, n: usize) -> Vec<(u32, usize)> {
     shapes
 }
 
-#[test]
-fn scans_and_unpacks() {
-    let mut calls = Calls::new("horizontal arguments about the limits");
+pub fn scans_and_unpacks<L: Layout>() {
+    let mut calls = Calls::of::<L>("arguments about the limits");
     for width in widths() {
         for n in COUNTS {
             for (page_width, page_n) in cut(width, n) {
-                let page = vec![0; page_bytes(page_width, page_n)];
+                let page = vec![L::Unit::filled(0); L::page_len(page_width, page_n)];
                 let entries = vec![7; page_n];
-                calls.unpack(&Unpack {
+                calls.unpack::<L>(&Unpack {
                     page: &page,
                     width,
                     n,
                     entries: &entries,
                 });
                 let bitmap = vec![0xA5; page_n.div_ceil(8)];
-                scans(&mut calls, &page, width, n, &bitmap);
+                scans::<L>(&mut calls, &page, width, n, &bitmap);
             }
         }
     }
@@ -66,13 +69,13 @@ fn scans_and_unpacks() {
 }
 
 /// All operators; of the large pages the edges and one more alone, which is enough and quick.
-fn scans(calls: &mut Calls, page: &[u8], width: u32, n: usize, bitmap: &[u8]) {
+fn scans<L: Layout>(calls: &mut Calls, page: &[L::Unit], width: u32, n: usize, bitmap: &[u8]) {
     let chosen = calls.random.below(8) as u32;
     for op in operators() {
         if n > 1000 && op < 7 && op != chosen {
             continue;
         }
-        calls.scan(&Scan {
+        calls.scan::<L>(&Scan {
             page,
             width,
             n,
@@ -84,15 +87,14 @@ fn scans(calls: &mut Calls, page: &[u8], width: u32, n: usize, bitmap: &[u8]) {
     }
 }
 
-#[test]
-fn packs() {
-    let mut calls = Calls::new("horizontal packs about the limits");
+pub fn packs<L: Layout>() {
+    let mut calls = Calls::of::<L>("packs about the limits");
     for width in widths() {
         for n in [0, 1, 9, 16_383, 16_384, 16_385] {
             for entry in [0, 1, u32::MAX] {
                 for (page_width, _) in cut(width, 0) {
-                    let page = vec![0xA5; page_bytes(page_width, n)];
-                    calls.pack(&Pack {
+                    let page = vec![L::Unit::filled(0xA5); L::page_len(page_width, n)];
+                    calls.pack::<L>(&Pack {
                         entries: &vec![entry; n],
                         width,
                         page: &page,

@@ -1,10 +1,11 @@
 //! Pages to call with, and constants to compare their entries with.
 
-use crate::reader::horizontal::{entry, pack, page_bytes, Pack};
+use super::layout::Layout;
+use crate::reader::Unit;
 use crate::support::random::Random;
 
-/// The counts around which a byte, a word and the limit lie.
-pub const SMALL_COUNTS: [usize; 9] = [0, 1, 7, 8, 9, 63, 64, 65, 127];
+/// The counts around which a byte, a word, two words and the limit lie.
+pub const SMALL_COUNTS: [usize; 11] = [0, 1, 7, 8, 9, 63, 64, 65, 127, 128, 129];
 pub const LARGE_COUNTS: [usize; 3] = [1000, 16_383, 16_384];
 
 #[derive(Clone, Copy, Debug)]
@@ -33,36 +34,33 @@ pub fn entries(kind: Kind, width: u32, n: usize, random: &mut Random) -> Vec<u32
 }
 
 /// A good page of n entries.
-pub fn page(kind: Kind, width: u32, n: usize, random: &mut Random) -> Vec<u8> {
-    if let Kind::Random = kind {
-        return random_page(width, n, random);
+pub fn page<L: Layout>(kind: Kind, width: u32, n: usize, random: &mut Random) -> Vec<L::Unit> {
+    match kind {
+        Kind::Random => random_page::<L>(width, n, random),
+        _ => L::page_of(&entries(kind, width, n, random), width),
     }
-    let entries = entries(kind, width, n, random);
-    let room = vec![0; page_bytes(width, n)];
-    pack(&Pack {
-        entries: &entries,
-        width,
-        page: &room,
-    })
-    .held
 }
 
-/// Any bytes, but for the unused bits of the last one.
-fn random_page(width: u32, n: usize, random: &mut Random) -> Vec<u8> {
-    let mut page = random.bytes(page_bytes(width, n));
-    let unused = page.len() * 8 - n * width as usize;
-    if let Some(last) = page.last_mut() {
-        *last &= 0xFF >> unused;
+/// Any bits, but for the unused ones.
+fn random_page<L: Layout>(width: u32, n: usize, random: &mut Random) -> Vec<L::Unit> {
+    let mut page: Vec<L::Unit> = random.units(L::page_len(width, n));
+    for (at, k) in L::unused_bits(width, n) {
+        page[at] = L::Unit::of(page[at].number() & !(1 << k));
     }
     page
 }
 
 /// Constants where a comparison may go wrong: the ends of all number ranges on the way, an entry of
 /// the page with its neighbours, and numbers that look like that entry once they are cut.
-pub fn constants(page: &[u8], width: u32, n: usize, random: &mut Random) -> Vec<i64> {
+pub fn constants<L: Layout>(
+    page: &[L::Unit],
+    width: u32,
+    n: usize,
+    random: &mut Random,
+) -> Vec<i64> {
     let x = match n {
         0 => 0,
-        _ => i64::from(entry(page, width, random.below(n))),
+        _ => i64::from(L::entry(page, width, random.below(n))),
     };
     let power = 1i64 << width;
     let mut all = vec![i64::MIN, i64::MIN + 1, -(1 << 32), -1, 0, 1];

@@ -1,0 +1,22 @@
+//! The column that every layout is measured with.
+
+pub const ENTRIES: usize = 16_384;
+pub const SOME_WIDTHS: [u32; 8] = [1, 3, 7, 8, 13, 16, 24, 32];
+
+/// Entries without a pattern, below 2^width.
+pub fn entries(width: u32) -> Vec<u32> {
+    let mut state = 0x2545_F491_4F6C_DD1D_u64;
+    let mut next = || {
+        state ^= state << 13;
+        state ^= state >> 7;
+        state ^= state << 17;
+        (state >> 32) as u32 >> (32 - width)
+    };
+    (0..ENTRIES).map(|_| next()).collect()
+}
+
+/// The middle half of the numbers of a width.
+pub fn band(width: u32) -> (u32, u32) {
+    let greatest = u32::MAX >> (32 - width);
+    (greatest / 4, greatest / 4 + greatest / 2)
+}

@@ -1,0 +1,30 @@
+//! Several ways to do one job: first held to one result, then timed.
+
+use std::fmt::Debug;
+use std::hint::black_box;
+
+use crate::clock::time;
+use crate::column::ENTRIES;
+use crate::table::row;
+
+/// One way: it writes to the place lent, and gives a number.
+pub type Way<'a, T> = &'a dyn Fn(&mut [T]) -> usize;
+
+/// Prints the row of a width, the first way's time being ours. Each way has a place of its own like `room`.
+/// Gives what they all wrote.
+pub fn race<T>(width: u32, room: &[T], ways: &[Way<T>]) -> Vec<T>
+where
+    T: Clone + Debug + PartialEq,
+{
+    let mut places = vec![room.to_vec(); ways.len()];
+    let numbers = ways.iter().zip(&mut places).map(|(way, place)| way(place));
+    let numbers: Vec<usize> = numbers.collect();
+    assert_eq!(numbers, vec![numbers[0]; ways.len()], "width {width}");
+    let written = places[0].clone();
+    assert!(places.iter().all(|p| *p == written), "width {width}");
+
+    let timed = ways.iter().zip(&mut places);
+    let timed = timed.map(|(way, place)| move || _ = black_box(way(black_box(place))));
+    row(width, &time(ENTRIES, &mut timed.collect::<Vec<_>>()));
+    written
+}

@@ -1,0 +1,68 @@
+//! Bit planes: scan at every width, unpack and pack at some.
+
+mod obvious;
+mod paper;
+
+use std::hint::black_box;
+
+use cahermisk::{vertical, Comparison};
+
+use crate::column::{band, entries, ENTRIES, SOME_WIDTHS};
+use crate::race::{race, Way};
+use crate::table::heading;
+
+pub fn report() {
+    println!("\nobvious: safe Rust, one entry after another, each bit from its own plane.");
+    println!("all planes, early exit: the paper's listing in Rust, 64 entries at once, without and with its early exit.");
+    heading(
+        "Vertical scan, 16,384 entries, a band of half the numbers",
+        &["obvious", "all planes", "early exit"],
+    );
+    (1..=32).for_each(scan);
+    heading("Vertical unpack, 16,384 entries", &["obvious"]);
+    SOME_WIDTHS.into_iter().for_each(unpack);
+    heading("Vertical pack, 16,384 entries", &["obvious"]);
+    SOME_WIDTHS.into_iter().for_each(pack);
+}
+
+fn words(width: u32) -> Vec<u64> {
+    vertical::pack_to_vec(&entries(width), width).expect("the entries fit the width")
+}
+
+fn scan(width: u32) {
+    let words = words(width);
+    let (low, high) = band(width);
+    let between = Comparison::between(low.into(), high.into());
+    let ours = |bitmap: &mut [u8]| {
+        vertical::scan(black_box(&words), width, ENTRIES, between, bitmap).expect("good planes")
+    };
+    let obvious = |bitmap: &mut [u8]| obvious::scan(black_box(&words), width, low, high, bitmap);
+    let all_planes =
+        |bitmap: &mut [u8]| paper::scan::<false>(black_box(&words), width, low, high, bitmap);
+    let early_exit =
+        |bitmap: &mut [u8]| paper::scan::<true>(black_box(&words), width, low, high, bitmap);
+    let ways: [Way<u8>; 4] = [&ours, &obvious, &all_planes, &early_exit];
+    race(width, &[0xA5; ENTRIES / 8], &ways);
+}
+
+fn unpack(width: u32) {
+    let words = words(width);
+    let ours = |list: &mut [u32]| {
+        vertical::unpack(black_box(&words), width, ENTRIES, list).expect("good planes")
+    };
+    let obvious = |list: &mut [u32]| obvious::unpack(black_box(&words), width, list);
+    let unpacked = race(width, &[0xA5; ENTRIES], &[&ours, &obvious]);
+    assert_eq!(unpacked, entries(width), "width {width}");
+}
+
+fn pack(width: u32) {
+    let entries = entries(width);
+    let ours = |words: &mut [u64]| {
+        vertical::pack(black_box(&entries), width, words).expect("the entries fit the width")
+    };
+    let obvious = |words: &mut [u64]| {
+        obvious::pack(black_box(&entries), width, words).expect("the entries fit the width")
+    };
+    let room = vec![0xA5; words(width).len()];
+    race(width, &room, &[&ours, &obvious]);
+}

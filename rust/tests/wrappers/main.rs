@@ -1,0 +1,7 @@
+//! The package's safe functions: what they give, each refusal, and no panic at any argument.
+
+mod layout;
+mod limits;
+mod names;
+mod refusals;
+mod results;

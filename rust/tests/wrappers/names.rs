@@ -1,0 +1,40 @@
+//! Refusals and operators, by name and by number.
+
+use cahermisk::{Operator, Refusal};
+
+const REFUSALS: [(Refusal, u32, &str); 8] = [
+    (Refusal::WidthAbove32, 1, "width above 32"),
+    (Refusal::TooManyEntries, 2, "more than 16,384 entries"),
+    (Refusal::OperatorAbove7, 3, "operator above 7"),
+    (Refusal::OutputTooShort, 4, "output too short"),
+    (Refusal::InputEndsTooEarly, 5, "input ends too early"),
+    (Refusal::InputLeftOver, 6, "input left over"),
+    (Refusal::UnusedBitsNot0, 7, "unused bits not 0"),
+    (Refusal::ValueTooLarge, 8, "entry not below 2^width"),
+];
+
+#[test]
+fn refusals_have_the_codes_and_the_words_of_document_01() {
+    for (refusal, code, words) in REFUSALS {
+        assert_eq!(refusal.code(), code);
+        assert_eq!(Refusal::from_code(code), Some(refusal));
+        assert_eq!(refusal.to_string(), words);
+        let error: Box<dyn std::error::Error> = Box::new(refusal);
+        assert_eq!(error.to_string(), words);
+    }
+    assert_eq!(Refusal::from_code(0), None);
+    let unknown = Refusal::from_code(u32::MAX);
+    assert_eq!(unknown, Some(Refusal::Unknown(u32::MAX)));
+    assert_eq!(unknown.map(Refusal::code), Some(u32::MAX));
+}
+
+#[test]
+fn operators_have_the_numbers_of_document_01() {
+    for (number, operator) in (0..).zip(Operator::ALL) {
+        assert_eq!(operator.number(), number);
+        assert_eq!(Operator::try_from(number), Ok(operator));
+    }
+    for number in [8, 9, 256 + 5, u32::MAX] {
+        assert_eq!(Operator::try_from(number), Err(Refusal::OperatorAbove7));
+    }
+}
