@@ -4,14 +4,14 @@ use mathlib.Core.List.{List, [], _∷_, _++_, map}
 use Prim.Native.Nat.{ℕ}
 use lib.IntN.{pos}
 use lib.ListN.{replicate}
-use Rattle.rules.specs.Bits.{tabulate, put, bit, word, bytes, bitOf, bitAt, piece}
+use Rattle.rules.specs.Bits.{tabulate, someBelow, put, bit, word, bytes, bitOf, bitAt, piece}
 use Rattle.rules.specs.Bits.Order.{lowFirst}
 use Rattle.rules.specs.Bitmap.{bitmap, tally}
 use Rattle.rules.specs.Comparison.{between, operators, holds}
 use Rattle.rules.specs.Answer.{_then_, limitFault, operatorFault, roomFault, anyLarge, largeFault, accepted, answered, Outcome}
 use Rattle.rules.specs.Answer.Outcome.{outcome}
-use Rattle.rules.specs.Horizontal.{pageFault, packed}
 use Rattle.rules.specs.Horizontal as Horizontal
+use Rattle.rules.specs.Vertical as Vertical
 
 -- what the definition gives, and what the document says
 pub record Row : Type 0 where
@@ -56,10 +56,16 @@ rows =
     -- w 7, n 10, all 0 but entry 9 = 127: seven 00, 80, 3F; equal 127: 00 02, 1
     ∷ Horizontal.pack lowFirst entries7 7 (lent 10) is holding 9 (page7 ++ lent 1)
     ∷ Horizontal.scan lowFirst page7 7 10 0 (pos 127) (pos 0) (lent 3) is holding 1 (0x00 ∷ 0x02 ∷ lent 1)
+    -- vertical w 2, entries 1, 2, 3: words 6, 5, and back; greater or equal 2: 06, 2
+    ∷ Vertical.pack (1 ∷ 2 ∷ 3 ∷ []) 2 (lent 3) is holding 2 (6 ∷ 5 ∷ lent 1)
+    ∷ Vertical.unpack (6 ∷ 5 ∷ []) 2 3 (lent 4) is holding 3 (1 ∷ 2 ∷ 3 ∷ lent 1)
+    ∷ Vertical.scan (6 ∷ 5 ∷ []) 2 3 5 (pos 2) (pos 0) (lent 2) is holding 2 (0x06 ∷ lent 1)
     ∷ []
 
 -- each definition gives what the document says
 pub examples : map (λ row. row .given) rows ≡ map (λ row. row .says) rows
-unfolding Horizontal.scan Horizontal.unpack Horizontal.pack pageFault anyLarge largeFault packed _then_ limitFault operatorFault roomFault answered
-    bitmap tally between operators holds tabulate put bit word bytes bitOf bitAt piece
+unfolding Horizontal.scan Horizontal.unpack Horizontal.pack Horizontal.pageFault Horizontal.packed
+    Vertical.scan Vertical.unpack Vertical.pack Vertical.pageFault Vertical.packed Vertical.lane Vertical.plane
+    anyLarge largeFault _then_ limitFault operatorFault roomFault answered
+    bitmap tally between operators holds tabulate someBelow put bit word bytes bitOf bitAt piece
 examples = refl

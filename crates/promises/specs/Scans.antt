@@ -1,20 +1,21 @@
 -- What every scan promises, over its first fault, its count of entries n and its test of entry i.
-use mathlib.Core.Path.{_≡_, sym, ap, _∙_}
+use mathlib.Core.Path.{_≡_, refl, sym, ap, ap₂, _∙_}
 use mathlib.Core.Bool.{Bool}
 use mathlib.Core.List.{List}
-use Prim.Native.Nat.{ℕ, _*_, _/_, _%_, _^_, _≤_, _<_}
-use native.Mathlib.Nat.{lt-of-lt-of-le, div-eq-of-lt}
+use Prim.Native.Nat.{ℕ, zero, suc, _+_, _*_, _/_, _%_, _^_, _≤_, _<_}
+use native.Mathlib.Nat.{lt-of-lt-of-le, div-eq-of-lt, add-zero}
+use native.Mathlib.Numerals.{add-one}
 use native.Mathlib.Omega.{arith}
 use lib.ListN.{take, drop}
 use lib.Seq.{getD-take}
 use lib.Pow.{pow-mono}
-use Rattle.rules.specs.Bits.{ceil, flag, bit, word, bitOf, bitAt, put}
+use Rattle.rules.specs.Bits.{ceil, flag, bit, word, bytes, bitOf, bitAt, put}
 use Rattle.rules.specs.Bits.Order.{lowFirst}
 use Rattle.rules.specs.Bitmap.{bitmap, tally}
-use Rattle.rules.specs.Answer.{scanned}
+use Rattle.rules.specs.Answer.{answered, scanned}
 use Rattle.rules.specs.Answer.Outcome.{outcome}
 use Rattle.rules.specs.declared.Answer.{Answer}
-use Rattle.words.specs.Bits.{word-lt}
+use Rattle.words.specs.Bits.{word-lt, word-add}
 use Rattle.bitmaps.specs.Counts.{countOnes}
 use Rattle.bitmaps.specs.Bitmaps.{length-bitmap, bit-number, bit-bitmap, count-bitmap}
 use Rattle.promises.specs.Fronts.{front, behind}
@@ -60,3 +61,21 @@ scan-promise fault n test before {after} {r} = promise fault (tally n test) (bit
           tallied = number;
           later-kept = ap (drop (ceil n 8)) wrote ∙ behind before (bitmap n test) (ceil n 8) (length-bitmap n test);
         }
+
+-- a comparison of one entry after another: entry n's bit is put behind those of the entries before it
+unfoldable pub inTurn : ℕ → (ℕ → Bool) → ℕ
+inTurn zero test = 0
+inTurn (suc n) test = inTurn n test + flag (test n) * 2 ^ n
+
+in-turn : (n : ℕ) (test : ℕ → Bool) → word n test ≡ inTurn n test
+unfolding inTurn word
+in-turn zero test = refl
+in-turn (suc n) test =
+    let one : word 1 (λ k. test (n + k)) ≡ flag (test n) = omega (arith, ap (λ (k : ℕ). flag (test k)) (add-zero n)) in
+    ap (λ (m : ℕ). word m test) (sym (add-one n)) ∙ word-add n 1 test ∙ ap₂ (λ (x y : ℕ). x + y * 2 ^ n) (in-turn n test) one
+
+-- a scan over 64 entries at once answers as a comparison of one entry after another does
+pub one-after-another : (fault n : ℕ) (test : ℕ → Bool) (before : List ℕ)
+    → scanned fault n test before ≡ answered fault (tally n test) (bytes (ceil n 8) (inTurn n test)) before
+unfolding bitmap
+one-after-another fault n test before = ap (λ (x : ℕ). answered fault (tally n test) (bytes (ceil n 8) x) before) (in-turn n test)
