@@ -4,3 +4,6 @@ pub mod Bitmap
 pub mod Answer
 pub mod Horizontal
 pub mod Vertical
+pub mod Varint
+pub mod Runs
+pub mod Grammar
