@@ -5,9 +5,8 @@ ghost use Rattle.rules.specs.Answer.Outcome.{outcome};
 ghost use Rattle.rules.specs.Horizontal as Horizontal;
 use answers::done;
 use answers::refused;
-use answers::room_fault;
 use columns::unsigned_fault;
-use packing::judging::any_large;
+use packing::judging::entries_fault;
 use rules::Answer;
 
 pub fn pack(entries: &[u32], width: u32, page: &mut [u8]) -> Answer
@@ -18,13 +17,10 @@ pub fn pack(entries: &[u32], width: u32, page: &mut [u8]) -> Answer
     if limits != 0 {
         return refused(limits);
     }
-    if any_large(entries, width) {
-        return refused(8);
-    }
     let bytes = (n * width as usize + 7) / 8;
-    let room = room_fault(page.len(), bytes);
-    if room != 0 {
-        return refused(room);
+    let code = entries_fault(entries, width, page.len(), bytes);
+    if code != 0 {
+        return refused(code);
     }
     packing::laying::pack(entries, width, page);
     done(bytes as u32)

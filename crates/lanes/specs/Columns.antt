@@ -1,6 +1,6 @@
 -- Whole columns of bit planes: packed entries unpacked are the entries, and a column's entries packed are the column, at every width, also 0.
-use mathlib.Core.Path.{_≡_, refl, sym, ap, ap₂, _∙_}
-use mathlib.Core.Bool.{Bool, true, false, _||_, true≢false}
+use mathlib.Core.Path.{_≡_, sym, ap, ap₂, _∙_}
+use mathlib.Core.Bool.{false}
 use mathlib.Core.List.{List}
 use Prim.Native.Nat.{ℕ, zero, suc, _+_, _-_, _*_, _/_, _%_, _≤_, _<_}
 use native.Mathlib.Nat.{not-suc-le-zero, add-zero, mul-zero, mod-lt, mod-eq-of-lt, div-eq-of-lt, div-lt-iff-lt-mul, div-add-mod', mul-add-div-right, mul-add-mod-self-right, mul-le-mul-right, suc-mul}
@@ -8,42 +8,16 @@ use native.Mathlib.Omega.{arith}
 use lib.Dec.{ltb}
 use lib.ListN.{length, getD, List·getD-eq-default}
 use lib.Seq.{ext-getD}
-use borrow.Author.Tests.{ltb-false, le-ltb}
-use Rattle.rules.specs.Bits.{ceil, tabulate, someBelow}
+use borrow.Author.Tests.{le-ltb}
+use Rattle.rules.specs.Bits.{ceil, tabulate, put}
 use Rattle.rules.specs.Answer.{anyLarge}
 use Rattle.rules.specs.Vertical.{lane, entry, plane, packed, pageWords, unused}
 use Rattle.words.specs.Joined.{Small}
-use Rattle.words.specs.Tabulated.{length-tabulate, getD-tabulate, small-tabulate}
+use Rattle.words.specs.Tabulated.{length-tabulate, getD-tabulate, tabulate-ext, small-tabulate, put-tabulate-add}
 use Rattle.packing.specs.Large.{small-of, large-of}
 use Rattle.lanes.specs.Lanes.{lane-lt}
+use Rattle.lanes.specs.Unused.{none-below, unused-zero}
 use Rattle.lanes.specs.Groups.{lane-planes, plane-lanes, getD-tabulate-zero}
-
--- ---- no number below n passes
-
-pub none-below : (n : ℕ) (test : ℕ → Bool) → ((k : ℕ) → k < n → test k ≡ false) → someBelow n test ≡ false
-unfolding someBelow
-none-below zero test h = refl
-none-below (suc n) test h = ap₂ _||_ (h zero (omega arith)) (none-below n (λ k. test (suc k)) (λ k l. h (suc k) (omega arith)))
-
-neither : (a b : Bool) → a || b ≡ false → (a ≡ false) × (b ≡ false)
-neither true b e = absurd (true≢false e)
-neither false b e = (refl, e)
-
-pub below-none : (n : ℕ) (test : ℕ → Bool) → someBelow n test ≡ false → (k : ℕ) → k < n → test k ≡ false
-unfolding someBelow
-below-none zero test e k h = absurd (not-suc-le-zero h)
-below-none (suc n) test e zero h = neither (test zero) (someBelow n (λ i. test (suc i))) e .0
-below-none (suc n) test e (suc k) h =
-    below-none n (λ i. test (suc i)) (neither (test zero) (someBelow n (λ i. test (suc i))) e .1) k (omega arith)
-
--- no lane past n is set: each of them, up to the end of its group, is 0
-pub unused-zero : (words : List ℕ) (w n i : ℕ) → unused words w n ≡ false → n ≤ i → i < 64 * ceil n 64 → entry words w i ≡ 0
-unused-zero words w n i e from to =
-    let k : ℕ = i - n in
-    let here : n + k ≡ i = omega arith in
-    let off : ltb 0 (entry words w (n + k)) ≡ false = below-none (64 * ceil n 64 - n) (λ k. ltb 0 (entry words w (n + k))) e k (omega arith) in
-    let none : entry words w (n + k) ≡ 0 = omega (arith, ltb-false 0 (entry words w (n + k)) off) in
-    sym (ap (entry words w) here) ∙ none
 
 -- entries of a column are never too large
 pub entries-small : (w n : ℕ) (words : List ℕ) → anyLarge w (tabulate n (entry words w)) ≡ false
@@ -61,16 +35,28 @@ pub length-packed : (w : ℕ) (xs : List ℕ) → length (packed w xs) ≡ pageW
 unfolding packed
 length-packed w xs = length-tabulate (pageWords w (length xs)) (λ i. plane w xs (i / w) (i % w))
 
--- word k of group g is its plane k
+-- lane j of group g is entry 64 × g + j
+pub entry-group : (words : List ℕ) (w g j : ℕ) → j < 64 → entry words w (64 * g + j) ≡ lane words (g * w) w j
+entry-group words w g j h =
+    let group : (64 * g + j) / 64 ≡ g = omega arith in
+    let place : (64 * g + j) % 64 ≡ j = omega arith in
+    ap₂ (λ (q r : ℕ). lane words (q * w) w r) group place
+
+-- word k of group g, of groups of w words
+group-of : (w g k : ℕ) → k < w → (g * w + k) / w ≡ g
+group-of w g k h = mul-add-div-right (omega arith) g k ∙ ap (λ (q : ℕ). g + q) (div-eq-of-lt h) ∙ add-zero g
+
+place-of : (w g k : ℕ) → k < w → (g * w + k) % w ≡ k
+place-of w g k h = mul-add-mod-self-right g w k ∙ mod-eq-of-lt h
+
+-- it is the group's plane k
 pub getD-packed : (w : ℕ) (xs : List ℕ) (g k : ℕ) → g < ceil (length xs) 64 → k < w → getD (packed w xs) (g * w + k) 0 ≡ plane w xs g k
 unfolding packed
 getD-packed w xs g k hg hk =
     let n : ℕ = ceil (length xs) 64 in
     let room : suc g * w ≤ n * w = mul-le-mul-right w hg in
     let within : g * w + k < n * w = omega (arith, suc-mul g w) in
-    let group : (g * w + k) / w ≡ g = mul-add-div-right (omega arith) g k ∙ ap (λ (q : ℕ). g + q) (div-eq-of-lt hk) ∙ add-zero g in
-    let place : (g * w + k) % w ≡ k = mul-add-mod-self-right g w k ∙ mod-eq-of-lt hk in
-    getD-tabulate (n * w) (λ i. plane w xs (i / w) (i % w)) (g * w + k) 0 within ∙ ap₂ (plane w xs) group place
+    getD-tabulate (n * w) (λ i. plane w xs (i / w) (i % w)) (g * w + k) 0 within ∙ ap₂ (plane w xs) (group-of w g k hk) (place-of w g k hk)
 
 -- each entry of a packed column, also past the last, is the list's
 pub entry-packed : (w : ℕ) (xs : List ℕ) (i : ℕ) → Small w xs → i < 64 * ceil (length xs) 64 → entry (packed w xs) w i ≡ getD xs i 0
@@ -111,10 +97,8 @@ pack-unpacked w n words small size none = ext-getD 0 (packed w xs) words (length
     -- lane j of group g is its entry, and 0 past n
     lanes : (g j : ℕ) → g < ceil n 64 → j < 64 → getD xs (64 * g + j) 0 ≡ lane words (g * w) w j
     lanes g j hg hj =
-        let group : (64 * g + j) / 64 ≡ g = omega arith in
-        let place : (64 * g + j) % 64 ≡ j = omega arith in
         getD-tabulate-zero n (entry words w) (64 * g + j) (λ past. unused-zero words w n (64 * g + j) none past (omega arith))
-        ∙ ap₂ (λ (q r : ℕ). lane words (q * w) w r) group place
+        ∙ entry-group words w g j hj
 
     same : (i : ℕ) → i < length (packed w xs) → getD (packed w xs) i 0 ≡ getD words i 0
     same i l =
@@ -129,3 +113,23 @@ pack-unpacked w n words small size none = ext-getD 0 (packed w xs) words (length
         let back : plane w xs g k ≡ getD words (g * w + k) 0 =
         plane-lanes words xs (g * w) w g k inside (small (g * w + k)) (λ j h. lanes g j group h) in
         rw split at (packed-word ∙ back)
+
+-- ---- a column filled group by group
+
+-- g groups' entries are in place, and m of the next group's
+pub next-group-entries : (l words : List ℕ) (w g m : ℕ) → m ≤ 64 → 64 * g + m ≤ length l
+    → put (put l 0 (tabulate (64 * g) (entry words w))) (64 * g) (tabulate m (lane words (g * w) w)) ≡ put l 0 (tabulate (64 * g + m) (entry words w))
+next-group-entries l words w g m few fits =
+    ap (put (put l 0 (tabulate (64 * g) (entry words w))) (64 * g))
+    (tabulate-ext m (lane words (g * w) w) (λ j. entry words w (64 * g + j)) (λ j h. sym (entry-group words w g j (omega arith))))
+    ∙ put-tabulate-add l (64 * g) m (entry words w) fits
+
+-- g groups' planes are in place, and the next group's
+pub next-group-planes : (l xs : List ℕ) (w g : ℕ) → g * w + w ≤ length l
+    → put (put l 0 (tabulate (g * w) (λ i. plane w xs (i / w) (i % w)))) (g * w) (tabulate w (plane w xs g))
+    ≡ put l 0 (tabulate (g * w + w) (λ i. plane w xs (i / w) (i % w)))
+next-group-planes l xs w g fits =
+    let f : ℕ → ℕ = λ i. plane w xs (i / w) (i % w) in
+    ap (put (put l 0 (tabulate (g * w) f)) (g * w))
+    (tabulate-ext w (plane w xs g) (λ k. f (g * w + k)) (λ k h. sym (ap₂ (plane w xs) (group-of w g k h) (place-of w g k h))))
+    ∙ put-tabulate-add l (g * w) w f fits

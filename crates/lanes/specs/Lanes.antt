@@ -1,13 +1,13 @@
--- The laws of `lane`: its bound, its bits, one plane more, a part of the words.
+-- The laws of `lane`: its bound, its bits, a part of the words.
 use mathlib.Core.Path.{_≡_, refl, sym, ap, ap₂, _∙_}
 use mathlib.Core.List.{List}
 use Prim.Native.Nat.{ℕ, zero, suc, _+_, _-_, _*_, _/_, _%_, _^_, _≤_, _<_}
 use native.Mathlib.Nat.{not-suc-le-zero, pow-suc, zero-add}
-use native.Mathlib.Numerals.{add-one}
+use native.Mathlib.Nat.{lt-of-lt-of-le}
 use native.Mathlib.Omega.{arith}
+use lib.Pow.{pow-mono}
 use lib.ListN.{take, drop, getD}
 use lib.Seq.{getD-take, getD-drop}
-use lib.Pow.{pow-mono}
 use Rattle.rules.specs.Bits.{bit}
 use Rattle.rules.specs.Vertical.{lane}
 use Rattle.words.specs.Bits.{bit-lt, bit-zero, bit-half}
@@ -17,18 +17,12 @@ unfolding lane
 lane-lt ps at zero j = omega arith
 lane-lt ps at (suc w) j = omega (arith, lane-lt ps at w j, pow-suc 2 w, bit-lt (getD ps (at + w) 0) j)
 
+pub lane-fits : (ps : List ℕ) (at w j : ℕ) → w ≤ 32 → lane ps at w j < 4294967296
+lane-fits ps at w j h = lt-of-lt-of-le (lane-lt ps at w j) (pow-mono {i = w} {j = 32} h)
+
 pub lane-none : (ps : List ℕ) (at j : ℕ) → lane ps at 0 j ≡ 0
 unfolding lane
 lane-none ps at j = refl
-
--- one plane more
-pub lane-next : (ps : List ℕ) (w j : ℕ) → lane ps 0 (w + 1) j ≡ lane ps 0 w j * 2 + getD ps w 0 / 2 ^ j % 2
-unfolding lane bit
-lane-next ps w j = rw add-one (ap (λ (i : ℕ). lane ps 0 w j * 2 + getD ps i 0 / 2 ^ j % 2) (zero-add w))
-
--- and fits
-pub lane-fits : (ps : List ℕ) (at w j : ℕ) → w ≤ 32 → lane ps at w j < 2 ^ 32
-lane-fits ps at w j h = omega (arith, lane-lt ps at w j, pow-mono {i = w} {j = 32} h)
 
 -- bit k of a lane is of plane w - 1 - k
 pub bit-lane : (ps : List ℕ) (at w j k : ℕ) → k < w → bit (lane ps at w j) k ≡ bit (getD ps (at + (w - 1 - k)) 0) j

@@ -1,4 +1,10 @@
 pub mod Lanes
 pub mod Planes
 pub mod Groups
+pub mod Fields
+pub mod Turned
+pub mod Rows
+pub mod Unpacked
+pub mod Laid
+pub mod Unused
 pub mod Columns

@@ -59,38 +59,38 @@ plane-part w xs g m k h = plane-ext w (take m ys) ys 0 0 k (λ j l. taken (0 + j
 -- ---- one bit of entries, one entry after another
 
 -- bit b of each entry, the first entry's lowest
-unfoldable pub column : ℕ → List ℕ → ℕ
-column b [] = 0
-column b (x ∷ xs) = column b xs * 2 + bit x b
+unfoldable pub bitsOf : ℕ → List ℕ → ℕ
+bitsOf b [] = 0
+bitsOf b (x ∷ xs) = bitsOf b xs * 2 + bit x b
 
-pub column-lt : (b : ℕ) (xs : List ℕ) → column b xs < 2 ^ length xs
-unfolding column
-column-lt b [] = omega arith
-column-lt b (x ∷ xs) = omega (arith, column-lt b xs, bit-lt x b, pow-suc 2 (length xs))
+pub bitsOf-lt : (b : ℕ) (xs : List ℕ) → bitsOf b xs < 2 ^ length xs
+unfolding bitsOf
+bitsOf-lt b [] = omega arith
+bitsOf-lt b (x ∷ xs) = omega (arith, bitsOf-lt b xs, bit-lt x b, pow-suc 2 (length xs))
 
-pub bit-column : (b : ℕ) (xs : List ℕ) (j : ℕ) → bit (column b xs) j ≡ bit (getD xs j 0) b
-unfolding column
-bit-column b [] j = bit-of-zero j ∙ sym (bit-of-zero b)
-bit-column b (x ∷ xs) zero = bit-zero (column b xs * 2 + bit x b) ∙ omega (arith, bit-lt x b)
-bit-column b (x ∷ xs) (suc j) =
-    let half : (column b xs * 2 + bit x b) / 2 ≡ column b xs = omega (arith, bit-lt x b) in
-    sym (bit-half (column b xs * 2 + bit x b) j) ∙ ap (λ (y : ℕ). bit y j) half ∙ bit-column b xs j
+pub bit-bitsOf : (b : ℕ) (xs : List ℕ) (j : ℕ) → bit (bitsOf b xs) j ≡ bit (getD xs j 0) b
+unfolding bitsOf
+bit-bitsOf b [] j = bit-of-zero j ∙ sym (bit-of-zero b)
+bit-bitsOf b (x ∷ xs) zero = bit-zero (bitsOf b xs * 2 + bit x b) ∙ omega (arith, bit-lt x b)
+bit-bitsOf b (x ∷ xs) (suc j) =
+    let half : (bitsOf b xs * 2 + bit x b) / 2 ≡ bitsOf b xs = omega (arith, bit-lt x b) in
+    sym (bit-half (bitsOf b xs * 2 + bit x b) j) ∙ ap (λ (y : ℕ). bit y j) half ∙ bit-bitsOf b xs j
 
 -- the entries from j on: none, and one more
-pub column-none : (b : ℕ) (xs : List ℕ) → column b (drop (length xs) xs) ≡ 0
-unfolding column
-column-none b xs = ap (column b) (drop-length xs)
+pub bitsOf-none : (b : ℕ) (xs : List ℕ) → bitsOf b (drop (length xs) xs) ≡ 0
+unfolding bitsOf
+bitsOf-none b xs = ap (bitsOf b) (drop-length xs)
 
-pub column-step : (b : ℕ) (xs : List ℕ) (j : ℕ) → j < length xs → column b (drop j xs) ≡ column b (drop (j + 1) xs) * 2 + getD xs j 0 / 2 ^ b % 2
-unfolding column bit
-column-step b xs j h = rw (add-one, drop-cons xs j 0 h)
+pub bitsOf-step : (b : ℕ) (xs : List ℕ) (j : ℕ) → j < length xs → bitsOf b (drop j xs) ≡ bitsOf b (drop (j + 1) xs) * 2 + getD xs j 0 / 2 ^ b % 2
+unfolding bitsOf bit
+bitsOf-step b xs j h = rw (add-one, drop-cons xs j 0 h)
 
 -- at most 64 entries make a word, and it is the plane
-pub column-fits : (b : ℕ) (xs : List ℕ) (j : ℕ) → length xs ≤ 64 → column b (drop j xs) < 2 ^ 64
-column-fits b xs j h =
-    lt-of-lt-of-le (column-lt b (drop j xs)) (pow-mono {i = length (drop j xs)} {j = 64} (omega (arith, length-drop j xs)))
+pub bitsOf-fits : (b : ℕ) (xs : List ℕ) (j : ℕ) → length xs ≤ 64 → bitsOf b (drop j xs) < 2 ^ 64
+bitsOf-fits b xs j h =
+    lt-of-lt-of-le (bitsOf-lt b (drop j xs)) (pow-mono {i = length (drop j xs)} {j = 64} (omega (arith, length-drop j xs)))
 
-pub column-plane : (w : ℕ) (xs : List ℕ) (k : ℕ) → length xs ≤ 64 → column (w - 1 - k) xs ≡ plane w xs 0 k
-column-plane w xs k h =
-    ext 64 (column-fits (w - 1 - k) xs 0 h) (plane-lt w xs 0 k)
-    (λ j l. bit-column (w - 1 - k) xs j ∙ ap (λ (i : ℕ). bit (getD xs i 0) (w - 1 - k)) (sym (zero-add j)) ∙ sym (bit-plane w xs 0 k j l))
+pub bitsOf-plane : (w : ℕ) (xs : List ℕ) (k : ℕ) → length xs ≤ 64 → bitsOf (w - 1 - k) xs ≡ plane w xs 0 k
+bitsOf-plane w xs k h =
+    ext 64 (bitsOf-fits (w - 1 - k) xs 0 h) (plane-lt w xs 0 k)
+    (λ j l. bit-bitsOf (w - 1 - k) xs j ∙ ap (λ (i : ℕ). bit (getD xs i 0) (w - 1 - k)) (sym (zero-add j)) ∙ sym (bit-plane w xs 0 k j l))

@@ -11,7 +11,8 @@ use lib.Seq.{take-suc}
 use lib.Pow.{pow-pos}
 use lib.Bits.{bitOr, or-lt, or-add-and, and-le-l, and-le-r}
 use borrow.Author.Tests.{leb-true, leb-false, le-leb, lt-leb}
-use Rattle.rules.specs.Answer.{anyLarge}
+use Rattle.rules.specs.Answer.{anyLarge, largeFault}
+use Rattle.answers.specs.Laws.{not-faulty}
 use Rattle.words.specs.Joined.{Small}
 
 neither : (a b : Bool) → a || b ≡ false → (a ≡ false) × (b ≡ false)
@@ -59,3 +60,8 @@ pub large-next : (w a : ℕ) (xs : List ℕ) (i : ℕ) → i < length xs → leb
     → leb (2 ^ w) (bitOr a (getD xs i 0)) ≡ anyLarge w (take (i + 1) xs)
 large-next w a xs i h e =
     rw (add-one, take-suc xs i 0 h, large-append, large-one) (large-or w a (getD xs i 0) ∙ ap (λ (t : Bool). t || leb (2 ^ w) (getD xs i 0)) e)
+
+-- where the listed fault is not there, no entry is too large
+pub fits-of : (w : ℕ) (xs : List ℕ) → largeFault w xs ≡ 0 → anyLarge w xs ≡ false
+unfolding largeFault
+fits-of w xs e = not-faulty _ 8 (λ h. omega arith) e

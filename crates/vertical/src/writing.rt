@@ -8,10 +8,9 @@ ghost use Rattle.rules.specs.Vertical as Vertical;
 use crate::groups::reached;
 use answers::done;
 use answers::refused;
-use answers::room_fault;
 use columns::unsigned_fault;
 use lanes::laying::pack_group;
-use packing::judging::any_large;
+use packing::judging::entries_fault;
 use rules::Answer;
 
 // Group g, from its own entries into its own planes; a lane past the list's end is 0.
@@ -45,13 +44,10 @@ pub fn pack(entries: &[u32], width: u32, words: &mut [u64]) -> Answer
     if limits != 0 {
         return refused(limits);
     }
-    if any_large(entries, width) {
-        return refused(8);
-    }
     let need = (n + 63) / 64 * width as usize;
-    let room = room_fault(words.len(), need);
-    if room != 0 {
-        return refused(room);
+    let code = entries_fault(entries, width, words.len(), need);
+    if code != 0 {
+        return refused(code);
     }
     pack_groups(entries, width as usize, words);
     done(need as u32)

@@ -1,15 +1,14 @@
 -- `horizontal::writing::pack` meets its contract: the faults in their order, then the page of the entries.
 use mathlib.Core.Path.{_≡_, sym, ap, _∙_}
-use mathlib.Core.Bool.{true, false}
 use Prim.Native.Nat.{ℕ, _≤_}
 use native.Mathlib.Omega.{arith}
 use lib.ListN.{length}
 use borrow.Author.Needs.{needs}
-use Rattle.rules.specs.Answer.{_then_, faulty, largeFault, limitFault, roomFault, accepted}
+use Rattle.rules.specs.Answer.{_then_, limitFault, largeFault, roomFault, accepted}
 use Rattle.rules.specs.Horizontal as Horizontal
-use Rattle.rules.specs.Horizontal.{pageBytes}
-use Rattle.answers.specs.Laws.{then-found, then-none, within-limits, has-room, refused-is, accepted-is}
+use Rattle.answers.specs.Laws.{then-found, then-none, then-zero, within-limits, has-room, refused-is, accepted-is}
 use Rattle.packing.specs.Packed.{length-packed}
+use Rattle.packing.specs.Large.{fits-of}
 use Rattle.horizontal.specs.Pages.{bits-le}
 use Rattle.horizontal.proofs.writing.pack.Statement.{statement}
 use Rattle.horizontal.proofs.writing.pack.Tie as tie
@@ -29,54 +28,35 @@ returns c =
 kept : (c : tie.Else1) → let a = c .before .before .before .before .args in (a .width ≤ 32) × (length (a .entries .now) ≤ 16384)
 kept c = within-limits _ _ (sym (c .before .unsigned-fault .ensures) ∙ c .if1 .left)
 
-any-large-requires : tie.Need-any-large-requires
-any-large-requires c κs = kept c .0
+mul-bytes : tie.Need-mul-bytes
+mul-bytes c = let k = kept c in omega (arith, bits-le _ _ (k .0) (k .1))
+
+add-bytes : tie.Need-add-bytes
+add-bytes c = let k = kept c in omega (arith, bits-le _ _ (k .0) (k .1))
+
+entries-fault-requires : tie.Need-entries-fault-requires
+entries-fault-requires c κs = kept c .0
+
+-- all faults, in their order, come to the last code found
+faults : (c : tie.After-entries-fault) → let a = c .before .before .before .before .before .args in
+    (limitFault (a .width) (length (a .entries .now)) then largeFault (a .width) (a .entries .now) then roomFault (length (a .page .now)) (Horizontal.pageBytes (a .width) (length (a .entries .now)))) ≡ c .entries-fault .result
+faults c = then-none _ _ (sym (c .before .before .unsigned-fault .ensures) ∙ c .before .if1 .left) ∙ sym (c .entries-fault .ensures)
 
 refused-requires-2 : tie.Need-refused-requires-2
 refused-requires-2 c κs = search needs
 
 returns-2 : tie.Need-returns-2
-unfolding Horizontal.pack largeFault
-returns-2 c =
-    let s = c .before .before in
-    let large = ap (λ t. faulty t 8) (sym (s .any-large .ensures) ∙ c .before .if2 .taken) in
-    refused-is _ _ _ _ _ _ (c .refused2 .ensures)
-    (then-none _ _ (sym (s .before .before .unsigned-fault .ensures) ∙ s .before .if1 .left) ∙ then-found _ _ _ large (λ e. omega arith)) (λ e. omega arith)
-
-mul-bytes : tie.Need-mul-bytes
-mul-bytes c = let k = kept (c .before .before) in omega (arith, bits-le _ _ (k .0) (k .1))
-
-add-bytes : tie.Need-add-bytes
-add-bytes c = let k = kept (c .before .before) in omega (arith, bits-le _ _ (k .0) (k .1))
-
-room-fault-requires : tie.Need-room-fault-requires
-room-fault-requires c κs = search needs
-
--- all faults, in their order, come to the last code found
-faults : (c : tie.After-room-fault) → let a = c .before .before .before .before .before .before .before .args in
-    (limitFault (a .width) (length (a .entries .now)) then largeFault (a .width) (a .entries .now) then roomFault (length (a .page .now)) (pageBytes (a .width) (length (a .entries .now)))) ≡ c .room-fault .result
-unfolding largeFault
-faults c =
-    let s = c .before .before .before in
-    then-none _ _ (sym (s .before .unsigned-fault .ensures) ∙ s .if1 .left)
-    ∙ then-none _ _ (ap (λ t. faulty t 8) (sym (c .before .before .any-large .ensures) ∙ c .before .if2 .left))
-    ∙ sym (c .room-fault .ensures)
-
-refused-requires-3 : tie.Need-refused-requires-3
-refused-requires-3 c κs = search needs
-
-returns-3 : tie.Need-returns-3
 unfolding Horizontal.pack
-returns-3 c = refused-is _ _ _ _ _ _ (c .refused3 .ensures) (faults (c .before .before)) (c .before .if3 .taken)
+returns-2 c = refused-is _ _ _ _ _ _ (c .refused2 .ensures) (faults (c .before .before)) (c .before .if2 .taken)
 
 pack-requires : tie.Need-pack-requires
 pack-requires c κs =
-    let s = c .before .before .before .before in
-    let k = kept (s .before) in
-    (k .0, k .1, sym (s .any-large .ensures) ∙ c .before .before .before .if2 .left, has-room _ _ (sym (c .before .before .room-fault .ensures) ∙ c .before .if3 .left))
+    let k = kept (c .before .before .before) in
+    let z = then-zero _ _ (sym (c .before .before .entries-fault .ensures) ∙ c .before .if2 .left) in
+    (k .0, k .1, fits-of _ _ (z .0), has-room _ _ (z .1))
 
 cast-done : tie.Need-cast-done
-cast-done c = let k = kept (c .before .before .before .before .before .before .before .before) in omega (arith, bits-le _ _ (k .0) (k .1))
+cast-done c = let k = kept (c .before .before .before .before .before .before) in omega (arith, bits-le _ _ (k .0) (k .1))
 
 done-requires : tie.Need-done-requires
 done-requires c κs = search needs
@@ -84,11 +64,11 @@ done-requires c κs = search needs
 same-length : tie.Need-same-length
 same-length c = search needs
 
-returns-4 : tie.Need-returns-4
+returns-3 : tie.Need-returns-3
 unfolding Horizontal.pack
-returns-4 c =
+returns-3 c =
     let s = c .before .before .before in
-    accepted-is _ _ _ _ _ _ (faults (s .before .before .before) ∙ s .before .before .if3 .left) (c .done .ensures ∙ ap accepted (sym (length-packed _ _ _))) (s .pack .ensures)
+    accepted-is _ _ _ _ _ _ (faults (s .before .before .before) ∙ s .before .before .if2 .left) (c .done .ensures ∙ ap accepted (sym (length-packed _ _ _))) (s .pack .ensures)
 
 pub pack-spec : {M : Type 1} → statement M
 pack-spec =
@@ -97,16 +77,13 @@ pack-spec =
     unsigned-fault-requires
     refused-requires
     returns
-    any-large-requires
-    refused-requires-2
-    returns-2
     mul-bytes
     add-bytes
-    room-fault-requires
-    refused-requires-3
-    returns-3
+    entries-fault-requires
+    refused-requires-2
+    returns-2
     pack-requires
     cast-done
     done-requires
     same-length
-    returns-4)
+    returns-3)

@@ -1,16 +1,15 @@
--- `lanes::laying::pack_group` meets its contract: each turn stores one plane more.
+-- `lanes::laying::pack_group` meets its contract: each turn stores eight planes more, the first turn those that are left over of eights.
 use mathlib.Core.Path.{_≡_, ap, _∙_}
-use Prim.Native.Nat.{ℕ, _-_, _≤_}
+use Prim.Native.Nat.{ℕ, _+_, _-_, _%_, _≤_}
 use native.Mathlib.Omega.{arith}
-use lib.ListN.{length, length-set}
+use lib.ListN.{length}
 use borrow.Author.Needs.{needs}
-use Rattle.words.specs.Puts.{put-none}
-use Rattle.words.specs.Tabulated.{put-tabulate}
+use Rattle.words.specs.Tabulated.{put-tabulate-add}
 use Rattle.rules.specs.Bits.{put, tabulate}
 use Rattle.rules.specs.Vertical.{plane}
+use Rattle.words.specs.Puts.{put-none}
 use Rattle.lanes.proofs.laying.pack_group.Statement.{statement}
 use Rattle.lanes.proofs.laying.pack_group.Tie as tie
-use Rattle.lanes.proofs.laying.plane_of.Reads as plane-of-reads
 
 abbrev Inv-loop : tie.InvT-loop
 Inv-loop entries w planes₀ k₀ planes k = (k ≤ w) × (length planes ≡ length planes₀) × (planes ≡ put planes₀ 0 (tabulate k (plane w entries 0)))
@@ -22,14 +21,17 @@ loop-holds : tie.Need-loop-holds Inv-loop μ-loop
 unfolding tabulate
 loop-holds c = (omega arith, omega arith, put-none (c .before .before .args .planes .now) 0)
 
-plane-of-requires : tie.Need-plane-of-requires Inv-loop μ-loop
-plane-of-requires c κs = search needs
+sub-n : tie.Need-sub-n Inv-loop μ-loop
+sub-n c = search needs
 
-mul-planes : tie.Need-mul-planes Inv-loop μ-loop
-mul-planes c = search needs
+sub-n-2 : tie.Need-sub-n-2 Inv-loop μ-loop
+sub-n-2 c = search needs
 
-slice-write-planes : tie.Need-slice-write-planes Inv-loop μ-loop
-slice-write-planes c = search needs
+add-n : tie.Need-add-n Inv-loop μ-loop
+add-n c = search needs
+
+some-planes-requires : tie.Need-some-planes-requires Inv-loop μ-loop
+some-planes-requires c κs = search needs
 
 add-k : tie.Need-add-k Inv-loop μ-loop
 add-k c = search needs
@@ -39,11 +41,13 @@ loop-less c = search needs
 
 loop-again : tie.Need-loop-again Inv-loop μ-loop
 loop-again c =
-    let a = c .before .before .before .before .before .args in
-    let l = c .before .before .loop in (
+    let a = c .before .before .before .before .before .before .before .before .args in
+    let l = c .before .before .before .before .before .loop in
+    let n : ℕ = (a .w - l .k - 1) % 8 + 1 in
+    let more = c .before .before .some-planes in (
       omega arith,
-      simp length-set (l .inv .1),
-      rw (l .inv .2, c .plane-of .ensures) (put-tabulate (a .planes .now) (l .k) (plane (a .w) (a .entries .now) 0) (omega arith)),
+      more .kept .1 .1 .1 .1 .0 ∙ l .inv .1,
+      more .ensures ∙ rw (l .inv .2) (put-tabulate-add (a .planes .now) (l .k) n (plane (a .w) (a .entries .now) 0) (omega arith)),
     )
 
 same-length : tie.Need-same-length Inv-loop μ-loop
@@ -62,9 +66,10 @@ pack-group-spec =
     Inv-loop
     μ-loop
     loop-holds
-    plane-of-requires
-    mul-planes
-    slice-write-planes
+    sub-n
+    sub-n-2
+    add-n
+    some-planes-requires
     add-k
     loop-less
     loop-again

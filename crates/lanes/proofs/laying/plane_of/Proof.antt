@@ -4,12 +4,12 @@ use Prim.Native.Nat.{ℕ, _+_, _-_, _*_, _/_, _%_, _^_, _≤_, _<_}
 use native.Mathlib.Omega.{arith}
 use lib.ListN.{length, drop, getD}
 use borrow.Author.Needs.{needs}
-use Rattle.lanes.specs.Planes.{column, column-none, column-step, column-fits, column-plane}
+use Rattle.lanes.specs.Planes.{bitsOf, bitsOf-none, bitsOf-step, bitsOf-fits, bitsOf-plane}
 use Rattle.lanes.proofs.laying.plane_of.Statement.{statement}
 use Rattle.lanes.proofs.laying.plane_of.Tie as tie
 
 abbrev Inv-loop : tie.InvT-loop
-Inv-loop entries w k p₀ j₀ p j = (j ≤ length entries) × (p ≡ column (w - 1 - k) (drop j entries))
+Inv-loop entries w k p₀ j₀ p j = (j ≤ length entries) × (p ≡ bitsOf (w - 1 - k) (drop j entries))
 
 abbrev μ-loop : tie.MeasureT-loop
 μ-loop entries w k p₀ j₀ p j = j
@@ -17,20 +17,20 @@ abbrev μ-loop : tie.MeasureT-loop
 -- the bits with one entry more, and that they fit
 more : (c : tie.After-shared-slice-known Inv-loop μ-loop)
     → let l = c .before .before .loop in let a = c .before .before .before .args in let b : ℕ = a .w - 1 - a .k in
-    (column b (drop (l .j - 1) (a .entries .now)) ≡ l .p * 2 + getD (a .entries .now) (l .j - 1) 0 / 2 ^ b % 2) × (column b (drop (l .j - 1) (a .entries .now)) < 2 ^ 64)
+    (bitsOf b (drop (l .j - 1) (a .entries .now)) ≡ l .p * 2 + getD (a .entries .now) (l .j - 1) 0 / 2 ^ b % 2) × (bitsOf b (drop (l .j - 1) (a .entries .now)) < 2 ^ 64)
 more c =
     let l = c .before .before .loop in
     let a = c .before .before .before .args in
     let b : ℕ = a .w - 1 - a .k in
     let xs = a .entries .now in
     let e : l .j - 1 + 1 ≡ l .j = omega arith in (
-      column-step b xs (l .j - 1) (omega arith)
-          ∙ ap (λ (x : ℕ). x * 2 + getD xs (l .j - 1) 0 / 2 ^ b % 2) (ap (λ (j : ℕ). column b (drop j xs)) e ∙ sym (l .inv .1)),
-      column-fits b xs (l .j - 1) (omega arith),
+      bitsOf-step b xs (l .j - 1) (omega arith)
+          ∙ ap (λ (x : ℕ). x * 2 + getD xs (l .j - 1) 0 / 2 ^ b % 2) (ap (λ (j : ℕ). bitsOf b (drop j xs)) e ∙ sym (l .inv .1)),
+      bitsOf-fits b xs (l .j - 1) (omega arith),
     )
 
 loop-holds : tie.Need-loop-holds Inv-loop μ-loop
-loop-holds c = (omega arith, sym (column-none (c .args .w - 1 - c .args .k) (c .args .entries .now)))
+loop-holds c = (omega arith, sym (bitsOf-none (c .args .w - 1 - c .args .k) (c .args .entries .now)))
 
 sub-j : tie.Need-sub-j Inv-loop μ-loop
 sub-j c = search needs
@@ -70,7 +70,7 @@ returns c =
     let a = c .before .before .args in
     let b : ℕ = a .w - 1 - a .k in
     let e : c .before .loop .j ≡ 0 = omega arith in
-    c .before .loop .inv .1 ∙ ap (λ (j : ℕ). column b (drop j (a .entries .now))) e ∙ column-plane (a .w) (a .entries .now) (a .k) (omega arith)
+    c .before .loop .inv .1 ∙ ap (λ (j : ℕ). bitsOf b (drop j (a .entries .now))) e ∙ bitsOf-plane (a .w) (a .entries .now) (a .k) (omega arith)
 
 pub plane-of-spec : {M : Type 1} → statement M
 plane-of-spec =

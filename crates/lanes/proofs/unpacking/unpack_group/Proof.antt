@@ -1,49 +1,65 @@
--- `lanes::unpacking::unpack_group` meets its contract: each turn fills one place more.
-use mathlib.Core.Path.{_≡_}
-use Prim.Native.Nat.{_-_, _≤_}
+-- `lanes::unpacking::unpack_group` meets its contract: each turn adds eight planes' digits to every entry, the first turn those that are left over of eights.
+use mathlib.Core.Path.{_≡_, refl, sym, ap, _∙_}
+use mathlib.Core.List.{List}
+use Prim.Native.Nat.{ℕ, _+_, _-_, _%_, _≤_, _<_}
 use native.Mathlib.Omega.{arith}
-use lib.ListN.{length, length-set}
+use lib.ListN.{length}
 use borrow.Author.Needs.{needs}
-use Rattle.words.specs.Puts.{put-none}
-use Rattle.words.specs.Tabulated.{put-tabulate}
 use Rattle.rules.specs.Bits.{put, tabulate}
 use Rattle.rules.specs.Vertical.{lane}
+use Rattle.words.specs.Tabulated.{length-tabulate}
+use Rattle.lanes.specs.Rows.{put-again}
+use Rattle.lanes.specs.Unpacked.{next-planes}
 use Rattle.lanes.proofs.unpacking.unpack_group.Statement.{statement}
 use Rattle.lanes.proofs.unpacking.unpack_group.Tie as tie
-use Rattle.lanes.proofs.unpacking.entry_of.Reads as entry-of-reads
 
 abbrev Inv-loop : tie.InvT-loop
-Inv-loop planes m entries₀ j₀ entries j = (j ≤ m) × (length entries ≡ length entries₀) × (entries ≡ put entries₀ 0 (tabulate j (lane planes 0 (length planes))))
+Inv-loop planes m entries₀ at₀ entries at =
+    (at ≤ length planes) × (0 < at → (length planes - at) % 8 ≡ 0) × (length entries ≡ length entries₀) × (entries ≡ put entries₀ 0 (tabulate m (lane planes 0 at)))
 
 abbrev μ-loop : tie.MeasureT-loop
-μ-loop planes m entries₀ j₀ entries j = m - j
+μ-loop planes m entries₀ at₀ entries at = length planes - at
+
+clear-requires : tie.Need-clear-requires Inv-loop μ-loop
+clear-requires c κs = search needs
 
 loop-holds : tie.Need-loop-holds Inv-loop μ-loop
-unfolding tabulate
-loop-holds c = (omega arith, omega arith, put-none (c .before .before .args .entries .now) 0)
+unfolding lane
+loop-holds c =
+    let a = c .before .before .before .before .before .before .args in
+    let l = a .entries .now in
+    let t : List ℕ = tabulate (a .m) (λ j. 0) in
+    let none = c .before .before .clear .ensures in
+    (omega arith, λ h. omega arith, omega arith, none ∙ sym (put-again l t t refl) ∙ ap (λ (k : List ℕ). put k 0 t) (sym none))
 
-entry-of-requires : tie.Need-entry-of-requires Inv-loop μ-loop
-entry-of-requires c κs = search needs
+sub-n : tie.Need-sub-n Inv-loop μ-loop
+sub-n c = search needs
 
-mul-entries : tie.Need-mul-entries Inv-loop μ-loop
-mul-entries c = search needs
+sub-n-2 : tie.Need-sub-n-2 Inv-loop μ-loop
+sub-n-2 c = search needs
 
-slice-write-entries : tie.Need-slice-write-entries Inv-loop μ-loop
-slice-write-entries c = search needs
+add-n : tie.Need-add-n Inv-loop μ-loop
+add-n c = search needs
 
-add-j : tie.Need-add-j Inv-loop μ-loop
-add-j c = search needs
+add-planes-requires : tie.Need-add-planes-requires Inv-loop μ-loop
+add-planes-requires c κs = search needs
+
+add-at : tie.Need-add-at Inv-loop μ-loop
+add-at c = search needs
 
 loop-less : tie.Need-loop-less Inv-loop μ-loop
 loop-less c = search needs
 
 loop-again : tie.Need-loop-again Inv-loop μ-loop
 loop-again c =
-    let a = c .before .before .before .before .before .args in
-    let l = c .before .before .loop in (
+    let a = c .before .before .before .before .before .before .before .before .before .before .before .before .args in
+    let l = c .before .before .before .before .before .loop in
+    let n : ℕ = (length (a .planes .now) - l .at - 1) % 8 + 1 in
+    let more = c .before .before .add-planes in (
       omega arith,
-      simp length-set (l .inv .1),
-      rw (l .inv .2, c .entry-of .ensures) (put-tabulate (a .entries .now) (l .j) (lane (a .planes .now) 0 (length (a .planes .now))) (omega arith)),
+      λ h. omega arith,
+      more .kept .1 .1 .1 .1 .0 ∙ l .inv .2,
+      more .ensures ∙ rw (l .inv .3) (next-planes (a .planes .now) _ (l .at) n (a .m) (omega arith) (λ h. omega (arith, l .inv .1 h))),
     )
 
 same-length : tie.Need-same-length Inv-loop μ-loop
@@ -51,8 +67,15 @@ same-length c = search needs
 
 returns : tie.Need-returns Inv-loop μ-loop
 returns c =
-    let all : c .before .loop .j ≡ c .before .before .before .before .args .m = omega arith in
-    rw (← all) (c .before .loop .inv .2)
+    let a = c .before .before .before .before .before .before .before .before .args in
+    let ps = a .planes .now in
+    let l = a .entries .now in
+    let none = c .before .before .before .before .clear in
+    let t : List ℕ = tabulate (a .m) (λ j. 0) in
+    let u : List ℕ = tabulate (a .m) (lane ps 0 (length ps)) in
+    let all : c .before .loop .at ≡ length ps = omega arith in
+    c .before .loop .inv .3 ∙ ap (λ (w : ℕ). put (none .last .1 .0) 0 (tabulate (a .m) (lane ps 0 w))) all ∙ ap (λ (k : List ℕ). put k 0 u) (none .ensures)
+    ∙ put-again l t u (length-tabulate (a .m) (λ j. 0) ∙ sym (length-tabulate (a .m) (lane ps 0 (length ps))))
 
 pub unpack-group-spec : {M : Type 1} → statement M
 unpack-group-spec =
@@ -60,11 +83,13 @@ unpack-group-spec =
     (tie.spec
     Inv-loop
     μ-loop
+    clear-requires
     loop-holds
-    entry-of-requires
-    mul-entries
-    slice-write-entries
-    add-j
+    sub-n
+    sub-n-2
+    add-n
+    add-planes-requires
+    add-at
     loop-less
     loop-again
     same-length

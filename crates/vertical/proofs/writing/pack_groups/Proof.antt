@@ -6,10 +6,11 @@ use native.Mathlib.Omega.{arith}
 use lib.ListN.{length}
 use Rattle.rules.specs.Bits.{put, tabulate}
 use Rattle.rules.specs.Vertical.{plane, packed}
-use native.Mathlib.Nat.{zero-mul}
+use native.Mathlib.Nat.{zero-mul, suc-mul}
+use native.Mathlib.Numerals.{add-one}
 use Rattle.words.specs.Puts.{put-none}
 use Rattle.words.specs.Entries.{place-within}
-use Rattle.vertical.specs.Groups.{next-planes}
+use Rattle.lanes.specs.Columns.{next-group-planes}
 use Rattle.vertical.proofs.writing.pack_groups.Statement.{statement}
 use Rattle.vertical.proofs.writing.pack_groups.Tie as tie
 
@@ -46,12 +47,14 @@ loop-again c =
     let s = c .before .before in
     let l = s .before .before .before .loop in
     let a = s .before .before .before .before .before .before .args in
+    let more : l .g * a .w + a .w ≡ (l .g + 1) * a .w = rw add-one (sym (suc-mul (l .g) (a .w))) in
     let kept : length (s .pack-one .last .1 .1 .1 .0) ≡ length (l .words) = s .pack-one .kept .1 .1 .1 .0 in (
       omega arith,
       omega arith,
       kept ∙ l .inv .2,
       s .pack-one .ensures ∙ ap (λ (x : List ℕ). put x (l .g * a .w) (tabulate (a .w) (plane (a .w) (a .entries .now) (l .g)))) (l .inv .3)
-          ∙ next-planes (a .words .now) (a .entries .now) (a .w) (l .g) (omega (arith, place-within (a .w) (l .g) ((length (a .entries .now) + 63) / 64) (omega arith))),
+          ∙ next-group-planes (a .words .now) (a .entries .now) (a .w) (l .g) (omega (arith, place-within (a .w) (l .g) ((length (a .entries .now) + 63) / 64) (omega arith)))
+          ∙ ap (λ (k : ℕ). put (a .words .now) 0 (tabulate k (λ i. plane (a .w) (a .entries .now) (i / a .w) (i % a .w)))) more,
     )
 
 same-length : tie.Need-same-length Inv-loop μ-loop
