@@ -1,5 +1,5 @@
 -- What a run that was read says of the page, case by case.
-use mathlib.Core.Path.{_≡_, refl, sym, ap, subst, _∙_}
+use mathlib.Core.Path.{_≡_, refl, subst}
 use mathlib.Core.Bool.{Bool, true, false, cond}
 use mathlib.Core.List.{List}
 use Prim.Native.Nat.{ℕ, _+_, _-_, _*_, _/_, _%_, _^_, _<_, _≤_}
@@ -18,7 +18,7 @@ use Rattle.varints.specs.Places.{next-within}
 
 -- a header h was read that ends at p, and what follows it passed every test
 pub data Shown (w left : ℕ) (page : List ℕ) (at : ℕ) : Run → Type 0 where
-  refuses : (code : ℕ) → Shown w left page at (Refused code)
+  refuses : (code : ℕ) → 0 < code → Shown w left page at (Refused code)
   repeats : (h p : ℕ) → numberAt 32 page at ≡ Read h p → h ≡ 2 * (h / 2) → 0 < h / 2 → h / 2 ≤ left → ceil w 8 ≤ length page - p → number (take (ceil w 8) (drop p page)) < 2 ^ w
       → Shown w left page at (Repeated (h / 2) (number (take (ceil w 8) (drop p page))) (p + ceil w 8))
   packs : (h p : ℕ) → numberAt 32 page at ≡ Read h p → h ≡ 2 * (h / 2) + 1 → 0 < h / 2 → 8 * (h / 2) ≤ left + 7 → w * (h / 2) ≤ length page - p
@@ -35,19 +35,19 @@ module _ (w left : ℕ) (page : List ℕ) (at : ℕ) where
   shown = go (numberAt 32 page at) refl
     where
       go : (n : Number) → numberAt 32 page at ≡ n → Shown w left page at (headed w left page n)
-      go Ended e = refuses 5
-      go Beyond e = refuses 9
+      go Ended e = refuses 5 (omega arith)
+      go Beyond e = refuses 9 (omega arith)
       go (Read h p) e =
           let S : Run → Type 0 = Shown w left page at in
-          either S (eqb (h / 2) 0) (λ none. refuses 10)
+          either S (eqb (h / 2) 0) (λ none. refuses 10 (omega arith))
           (λ some. either S (eqb (h % 2) 0)
-          (λ even. either S (ltb left (h / 2)) (λ _. refuses 11)
-          (λ fits. either S (ltb (length page - p) (ceil w 8)) (λ _. refuses 5)
+          (λ even. either S (ltb left (h / 2)) (λ _. refuses 11 (omega arith))
+          (λ fits. either S (ltb (length page - p) (ceil w 8)) (λ _. refuses 5 (omega arith))
           (λ there. either S (ltb (number (take (ceil w 8) (drop p page))) (2 ^ w))
           (λ small. repeats h p e (omega (arith, eqb-true (h % 2) 0 even)) (omega (arith, eqb-false (h / 2) 0 some)) (ltb-false _ _ fits) (ltb-false _ _ there) (ltb-true _ _ small))
-          (λ _. refuses 8))))
-          (λ odd. either S (ltb (left + 7) (8 * (h / 2))) (λ _. refuses 11)
-          (λ fits. either S (ltb (length page - p) (w * (h / 2))) (λ _. refuses 5)
+          (λ _. refuses 8 (omega arith)))))
+          (λ odd. either S (ltb (left + 7) (8 * (h / 2))) (λ _. refuses 11 (omega arith))
+          (λ fits. either S (ltb (length page - p) (w * (h / 2))) (λ _. refuses 5 (omega arith))
           (λ there. packs h p e (omega (arith, eqb-false (h % 2) 0 odd)) (omega (arith, eqb-false (h / 2) 0 some)) (ltb-false _ _ fits) (ltb-false _ _ there)))))
 
   -- ---- for whoever reads on

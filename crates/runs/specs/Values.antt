@@ -1,6 +1,6 @@
 -- The value of a repeated run, read with the bytes behind it and cut to its own.
 use mathlib.Core.Path.{_≡_}
-use mathlib.Core.List.{List, _++_}
+use mathlib.Core.List.{List}
 use Prim.Native.Nat.{ℕ, _+_, _*_, _%_, _^_, _≤_, _<_}
 use native.Mathlib.Nat.{add-comm}
 use lib.ListN.{length, take, drop}

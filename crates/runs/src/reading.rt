@@ -1,7 +1,7 @@
 // One run at a place of a page, where `left` entries are not yet covered.
 ghost use mathlib.Core.Path.{_≡_};
 ghost use mathlib.Core.List.{List};
-ghost use Prim.Native.Nat.{ℕ, _+_, _^_, _≤_, _<_};
+ghost use Prim.Native.Nat.{ℕ, _+_, _-_, _^_, _≤_, _<_};
 ghost use lib.ListN.{length, take, drop};
 ghost use Rattle.rules.specs.Bits.{number};
 ghost use Rattle.rules.specs.Runs.{repeatedAt, packedAt, runAt};
@@ -78,4 +78,14 @@ pub fn run_at(page: &[u8], at: usize, w: usize, left: usize) -> Run
     } else {
         packed_at(&page[next..], next, w, left, half)
     }
+}
+
+// How many of the entries that were left a run leaves; the last packed run may pass them.
+pub fn still_left(left: usize, entries: usize) -> usize
+    ensures { λ r. ⌜ r ≡ left - entries ⌝ }
+{
+    if left < entries {
+        return 0;
+    }
+    left - entries
 }
