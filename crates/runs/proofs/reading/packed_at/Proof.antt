@@ -1,0 +1,44 @@
+-- `runs::reading::packed_at` meets its contract: its tests are those of the rule, on the length of the page's rest.
+use mathlib.Core.Path.{_≡_, sym, ap, _∙_}
+use Prim.Native.Nat.{_+_, _-_, _*_}
+use native.Mathlib.Nat.{mul-le-mul-right}
+use native.Mathlib.Omega.{arith}
+use lib.ListN.{length, length-drop}
+use borrow.Author.Needs.{needs}
+use borrow.Author.Tests.{lt-ltb, le-ltb}
+use Rattle.rules.specs.Runs.{packedAt}
+use Rattle.runs.proofs.reading.packed_at.Statement.{statement}
+use Rattle.runs.proofs.reading.packed_at.Tie as tie
+
+add-if1 : tie.Need-add-if1
+add-if1 c = search needs
+
+returns : tie.Need-returns
+unfolding packedAt
+returns c page e = rw (lt-ltb (c .before .args .left + 7) (8 * c .before .args .groups) (omega arith))
+
+mul-if2 : tie.Need-mul-if2
+mul-if2 c = omega (arith, mul-le-mul-right {n = 32} (c .before .args .groups) (c .before .pre .0))
+
+returns-2 : tie.Need-returns-2
+unfolding packedAt
+returns-2 c page e =
+    let a = c .before .before .args in
+    let size : length page - a .at ≡ length (a .part .now) = sym (length-drop (a .at) page) ∙ ap length e in
+    rw (le-ltb (a .left + 7) (8 * a .groups) (omega arith), size, lt-ltb _ _ (c .if2 .taken))
+
+mul-t6 : tie.Need-mul-t6
+mul-t6 c = search needs
+
+add-t7 : tie.Need-add-t7
+add-t7 c = search needs
+
+returns-3 : tie.Need-returns-3
+unfolding packedAt
+returns-3 c page e =
+    let a = c .before .before .args in
+    let size : length page - a .at ≡ length (a .part .now) = sym (length-drop (a .at) page) ∙ ap length e in
+    rw (le-ltb (a .left + 7) (8 * a .groups) (omega arith), size, le-ltb _ _ (c .if2 .left))
+
+pub packed-at-spec : {M : Type 1} → statement M
+packed-at-spec = tie.close (tie.spec add-if1 returns mul-if2 returns-2 mul-t6 add-t7 returns-3)

@@ -1,0 +1,19 @@
+-- The value of a repeated run, read with the bytes behind it and cut to its own.
+use mathlib.Core.Path.{_≡_}
+use mathlib.Core.List.{List}
+use Prim.Native.Nat.{ℕ, _+_, _*_, _%_, _^_, _≤_, _<_}
+use native.Mathlib.Nat.{add-comm}
+use lib.ListN.{length, take, drop}
+use lib.Seq.{take-add, length-take-le}
+use lib.Pow.{low}
+use Rattle.rules.specs.Bits.{number}
+use Rattle.words.specs.Bytes.{number-append, pow-256}
+use Rattle.words.specs.Joined.{Small, small-take, joined-lt}
+
+-- of k + m bytes that were read together, the first k
+pub first-bytes : (l : List ℕ) (k m : ℕ) → Small 8 l → k ≤ length l → number (take (k + m) l) % 2 ^ (8 * k) ≡ number (take k l)
+first-bytes l k m bytes h =
+    let size : length (take k l) ≡ k = length-take-le k l h in
+    let small : number (take k l) < 2 ^ (8 * k) = rw size at (joined-lt 8 (take k l) (small-take 8 k l bytes)) in
+    rw (take-add k m l, number-append (take k l) (take m (drop k l)), size, pow-256 k, add-comm (number (take k l)))
+    (low (number (take m (drop k l))) (8 * k) small)

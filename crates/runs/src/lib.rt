@@ -1,0 +1,3 @@
+// Run streams: one run at a place of a page, and a whole stream judged. The grammar's laws stand in specs/.
+pub mod judging;
+pub mod reading;
