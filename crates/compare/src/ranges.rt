@@ -1,6 +1,8 @@
 // The entries of an unsigned column that a band selects.
 ghost use mathlib.Core.Path.{_≡_};
-ghost use Rattle.compare.specs.Range.{cutOf, nextOf, flipOf, rangeOf};
+ghost use Prim.Native.Nat.{_+_, _<_};
+ghost use Rattle.compare.specs.Range.{cutOf, nextOf, flipOf, rangeOf, ranged};
+use std::num::wrapping_sub_u32;
 use crate::bands::Band;
 
 // From low to low + span, or where flip is 255 all others.
@@ -61,4 +63,16 @@ pub fn range_of(band: Band) -> Range
         span: 4294967295,
         flip: flip_of(!band.outside),
     }
+}
+
+// Does the range select an entry.
+pub fn passes(range: Range, x: u32) -> bool
+    requires { ⌜ range .low + range .span < 4294967296 ⌝ }
+    ensures { λ r. ⌜ r ≡ ranged range x ⌝ }
+{
+    let inside = wrapping_sub_u32(x, range.low) <= range.span;
+    if 0 < range.flip {
+        return !inside;
+    }
+    inside
 }

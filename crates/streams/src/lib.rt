@@ -1,0 +1,1 @@
+// Run streams: scan, unpack.
