@@ -1,2 +1,4 @@
 pub mod Behind
 pub mod Whole
+pub mod Pieces
+pub mod Packed
