@@ -1,9 +1,9 @@
 -- Bits put behind bits in several goes are bits put in one go.
-use mathlib.Core.Path.{_≡_, refl, sym, ap, ap₂, _∙_}
+use mathlib.Core.Path.{_≡_, sym, ap, ap₂, _∙_}
 use mathlib.Core.Bool.{Bool}
-use mathlib.Core.List.{List, [], _∷_, _++_, append-assoc}
-use Prim.Native.Nat.{ℕ, zero, suc, _+_, _-_, _*_, _/_, _%_, _^_, _≤_, _<_}
-use native.Mathlib.Nat.{mul-assoc, add-mul, add-comm, add-assoc, mul-comm, mul-one, zero-add, mod-lt}
+use mathlib.Core.List.{List, _++_, append-assoc}
+use Prim.Native.Nat.{ℕ, _+_, _*_, _/_, _%_, _^_, _≤_, _<_}
+use native.Mathlib.Nat.{mul-assoc, add-mul, add-comm, add-assoc, mod-lt}
 use native.Mathlib.Omega.{arith}
 use lib.ListN.{length, take, drop, getD}
 use lib.Seq.{length-take-le, take-append-add, drop-append-add}
@@ -83,7 +83,8 @@ module _ (l b c : List ℕ) (p m k : ℕ) (room : p + m ≤ 8 * length b) where
   pub begun-words : (f : ℕ → Bool) → Begun l p (word m f) m b → c ≡ appended b (p + m) (word k (λ i. f (m + i))) k → Begun l p (word (m + k) f) (m + k) c
   begun-words f h e = rw (word-add m k f) (begun-more (word m f) (word k (λ i. f (m + i))) (word-lt k (λ i. f (m + i))) h e)
 
-  -- and the last
-  pub ended-words : (f : ℕ → Bool) → Begun l p (word m f) m b → c ≡ appended b (p + m) (word k (λ i. f (m + i))) k → c ≡ appended l p (word (m + k) f) (m + k)
-  ended-words f h e =
-      e ∙ h (word k (λ i. f (m + i))) k ∙ ap (λ (x : ℕ). appended l p x (m + k)) (sym (word-add m k f))
+-- and the last
+pub ended-words : (l b c : List ℕ) (p m k : ℕ) (f : ℕ → Bool) → Begun l p (word m f) m b → c ≡ appended b (p + m) (word k (λ i. f (m + i))) k
+    → c ≡ appended l p (word (m + k) f) (m + k)
+ended-words l b c p m k f h e =
+    e ∙ h (word k (λ i. f (m + i))) k ∙ ap (λ (x : ℕ). appended l p x (m + k)) (sym (word-add m k f))

@@ -1,7 +1,7 @@
 -- A number's bits put piece by piece, the low ones first.
-use mathlib.Core.Path.{_≡_, refl, sym, ap, ap₂, _∙_}
+use mathlib.Core.Path.{_≡_, sym, ap, _∙_}
 use mathlib.Core.List.{List}
-use Prim.Native.Nat.{ℕ, _+_, _-_, _*_, _/_, _%_, _^_, _≤_, _<_}
+use Prim.Native.Nat.{ℕ, _+_, _*_, _/_, _%_, _^_, _≤_, _<_}
 use native.Mathlib.Nat.{mod-one, div-one, mod-lt, mod-eq-of-lt, lt-of-lt-of-le, add-comm}
 use native.Mathlib.Omega.{arith}
 use lib.ListN.{length, take, drop}

@@ -1,5 +1,5 @@
 -- `marking::packed::mark_between` meets its contract: the part's entries are the body's from byte `from` on.
-use mathlib.Core.Path.{_≡_, ap, _∙_}
+use mathlib.Core.Path.{ap, _∙_}
 use Prim.Native.Nat.{ℕ, _-_}
 use native.Mathlib.Omega.{arith}
 use Rattle.words.specs.Appended.{appended}

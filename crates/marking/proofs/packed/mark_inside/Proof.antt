@@ -1,5 +1,5 @@
 -- `marking::packed::mark_inside` meets its contract. The loop's invariant: the entries of g groups of eight are marked, and `at` is their bytes.
-use mathlib.Core.Path.{_≡_, sym, ap, ap₂, subst, _∙_}
+use mathlib.Core.Path.{_≡_, ap, subst, _∙_}
 use mathlib.Core.Bool.{Bool}
 use Prim.Native.Nat.{ℕ, _+_, _-_, _*_, _≤_, _<_}
 use native.Mathlib.Nat.{add-mul}
@@ -128,7 +128,7 @@ returns c =
     ∙ ap (λ (x : ℕ). appended (l .bitmap) (a .p + 8 * l .g) x rest)
     (ap (λ (b : ℕ). word rest (λ i. ranged (a .range) (field lowFirst body (8 * b + i * a .w) (a .w)))) (l .inv .1)
     ∙ group-word body (l .g) (a .w) rest (ranged (a .range))) in
-    ended-words (a .bitmap .now) (l .bitmap) marked (a .p) (8 * l .g) rest (omega arith) test (l .inv .3) stored
+    ended-words (a .bitmap .now) (l .bitmap) marked (a .p) (8 * l .g) rest test (l .inv .3) stored
     ∙ ap (λ (m : ℕ). appended (a .bitmap .now) (a .p) (word m test) m) whole
 
 pub mark-inside-spec : {M : Type 1} → statement M

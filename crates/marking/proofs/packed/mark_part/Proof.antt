@@ -1,7 +1,6 @@
 -- `marking::packed::mark_part` meets its contract: the bits that the comparison leaves in zeros are the entries' word.
 use mathlib.Core.Path.{_≡_, ap, _∙_}
 use Prim.Native.Nat.{ℕ, _^_, _<_}
-use native.Mathlib.Omega.{arith}
 use Rattle.rules.specs.Bits.{number, word, entry}
 use Rattle.rules.specs.Bits.Order.{lowFirst}
 use Rattle.words.specs.Bits.{word-lt}

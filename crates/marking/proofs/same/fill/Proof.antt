@@ -1,9 +1,8 @@
 -- `marking::same::fill` meets its contract. The loop's invariant: the bytes passed are entries put from byte a on.
-use mathlib.Core.Path.{_≡_, sym, ap, _∙_}
-use Prim.Native.Nat.{ℕ, _+_, _-_, _*_, _≤_}
+use mathlib.Core.Path.{_≡_}
+use Prim.Native.Nat.{_-_, _*_, _≤_}
 use native.Mathlib.Omega.{arith}
-use lib.ListN.{length, set, length-set}
-use borrow.Author.Needs.{needs}
+use lib.ListN.{length, length-set}
 use Rattle.rules.specs.Bits.{word}
 use Rattle.words.specs.Bits.{word-lt}
 use Rattle.words.specs.Appended.{appended}

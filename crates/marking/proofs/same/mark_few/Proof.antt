@@ -1,8 +1,6 @@
 -- `marking::same::mark_few` meets its contract: m bits are below 2 ^ m.
-use mathlib.Core.Path.{_≡_, ap, _∙_}
+use mathlib.Core.Path.{ap, _∙_}
 use Prim.Native.Nat.{ℕ, _^_, _<_}
-use native.Mathlib.Omega.{arith}
-use Rattle.rules.specs.Bits.{word}
 use Rattle.words.specs.Bits.{word-lt}
 use Rattle.words.specs.Appended.{appended}
 use borrow.Author.Needs.{needs}

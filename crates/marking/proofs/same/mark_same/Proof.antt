@@ -1,6 +1,5 @@
 -- `marking::same::mark_same` meets its contract: the entries up to the next byte, and the others behind them.
-use mathlib.Core.Path.{_≡_, ap, _∙_}
-use Prim.Native.Nat.{ℕ, _+_, _-_, _*_, _/_, _%_}
+use Prim.Native.Nat.{_+_, _-_, _*_, _/_, _%_}
 use native.Mathlib.Omega.{arith}
 use Rattle.marking.specs.Behind.{words-twice}
 use borrow.Author.Needs.{needs}

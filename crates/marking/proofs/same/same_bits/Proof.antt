@@ -1,10 +1,8 @@
 -- `marking::same::same_bits` meets its contract: m bits that are all set are 2 ^ m - 1.
-use mathlib.Core.Path.{_≡_, sym, ap, _∙_}
-use mathlib.Core.Bool.{Bool}
+use mathlib.Core.Path.{sym}
 use native.Mathlib.Omega.{arith}
 use lib.Pow.{pow-pos}
 use borrow.Author.Needs.{needs}
-use Rattle.rules.specs.Bits.{word}
 use Rattle.words.specs.Bits.{one-shl, word-all, word-none}
 use Rattle.marking.proofs.same.same_bits.Statement.{statement}
 use Rattle.marking.proofs.same.same_bits.Tie as tie
