@@ -6,3 +6,4 @@ pub mod Sound
 pub mod Exact
 pub mod Walks
 pub mod Second
+pub mod One
