@@ -39,7 +39,7 @@ module _ {O : Type 0} (put : ℕ → Piece → O → O) where
   abbrev pub writing : Work (ℕ × O) O
   writing = record { step = λ p kept. (kept .0 + entries p, put (kept .0) p (kept .1)); fault = λ code kept. kept .1; end = λ over kept. kept .1 }
 
-  pub pass : ℕ → ℕ → List ℕ → O → O
+  unfoldable pub pass : ℕ → ℕ → List ℕ → O → O
   pass w n page out = walk writing w n n page 0 (0, out)
 
   -- what runs write, one after the other, from entry i on

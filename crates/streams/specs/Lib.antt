@@ -1,3 +1,4 @@
 pub mod Covered
 pub mod Marked
 pub mod Placed
+pub mod Turns

@@ -1,11 +1,12 @@
 -- The bits that a stream's runs set are the bitmap of its entries.
-use mathlib.Core.Path.{_≡_, sym, ap, _∙_}
+use mathlib.Core.Path.{_≡_, refl, sym, ap, _∙_}
 use mathlib.Core.Bool.{Bool}
 use mathlib.Core.List.{List}
-use Prim.Native.Nat.{ℕ, _+_, _≤_, _<_}
+use Prim.Native.Nat.{ℕ, _+_, _*_, _≤_, _<_, min}
 use native.Mathlib.Omega.{arith}
-use lib.ListN.{getD}
-use Rattle.rules.specs.Bits.{word, bytes, put}
+use lib.ListN.{getD, take, drop}
+use Rattle.rules.specs.Bits.{word, bytes, field, entry, put}
+use Rattle.rules.specs.Bits.Order.{lowFirst}
 use Rattle.rules.specs.Bitmap.{bitmap}
 use Rattle.rules.specs.Runs.{Piece, cutEntries}
 use Rattle.rules.specs.Grammar.{Cut}
@@ -14,7 +15,9 @@ use Rattle.words.specs.Puts.{put-none}
 use Rattle.words.specs.Appended.{appended}
 use Rattle.bitmaps.specs.Bitmaps.{appended-bitmap}
 use Rattle.runs.specs.Second.{putAll, pass, pass-cut}
+use Rattle.marking.specs.Packed.{part-word}
 use Rattle.streams.specs.Covered.{written, covers}
+use Rattle.streams.specs.Turns.{body-fits}
 
 -- m entries' bits are put behind those in place
 abbrev pub marks : (ℕ → Bool) → ℕ → ℕ → (ℕ → ℕ) → List ℕ → List ℕ
@@ -23,6 +26,10 @@ marks test i m value out = appended out i (word m (λ k. test (value k))) m
 -- what a pass over a page leaves of a bitmap
 unfoldable pub marked : (ℕ → Bool) → ℕ → ℕ → List ℕ → List ℕ → List ℕ
 marked test w n page out = pass (written n (marks test) w) w n page out
+
+pub marked-pass : (test : ℕ → Bool) (w n : ℕ) (page out : List ℕ) → marked test w n page out ≡ pass (written n (marks test) w) w n page out
+unfolding marked
+marked-pass test w n page out = refl
 
 nothing : (out : List ℕ) (test : ℕ → Bool) → out ≡ put out 0 (bitmap 0 test)
 unfolding bitmap bytes
@@ -46,3 +53,12 @@ marked-cut test w n page ps out cut =
 
     none : out ≡ holding 0 (λ i. getD (cutEntries w ps) i 0)
     none = nothing out (λ i. test (getD (cutEntries w ps) i 0))
+
+-- a packed run's bits, of the entries as they lie in the page
+pub marked-body : (test : ℕ → Bool) (page out new : List ℕ) (w start groups left i m : ℕ) → m ≡ min (8 * groups) left
+    → new ≡ appended out i (word m (λ k. test (field lowFirst page (8 * start + k * w) w))) m
+    → new ≡ marks test i (min (8 * groups) left) (entry lowFirst (take (w * groups) (drop start page)) w) out
+marked-body test page out new w start groups left i m few e =
+    e
+    ∙ ap (λ (x : ℕ). appended out i x m) (sym (part-word page start (w * groups) w m test (body-fits w groups m (omega arith))))
+    ∙ ap (λ (k : ℕ). marks test i k (entry lowFirst (take (w * groups) (drop start page)) w) out) few

@@ -1,1 +1,2 @@
 // Run streams: scan, unpack.
+pub mod marking_runs;

@@ -1,0 +1,55 @@
+-- The turns of a pass over a stream that counts its entries from 0 up to n.
+use mathlib.Core.Path.{_≡_, sym, ap, subst₂, _∙_}
+use mathlib.Core.List.{List}
+use Prim.Native.Nat.{ℕ, _+_, _-_, _*_, _≤_, _<_, min}
+use native.Mathlib.Nat.{mul-comm, mul-assoc, mul-le-mul-right}
+use native.Mathlib.Omega.{arith}
+use lib.ListN.{take, drop}
+use Rattle.rules.specs.Bits.{entry}
+use Rattle.rules.specs.Bits.Order.{lowFirst}
+use Rattle.rules.specs.Runs.{runAt}
+use Rattle.rules.specs.declared.Run.the-variants.{Repeated, Packed, Refused}
+use Rattle.runs.specs.Walks.{Comes, walk, repeated, packs, refused, ended}
+use Rattle.runs.specs.Second.{writing, pass}
+use Rattle.runs.specs.Shown.{ran-repeated, ran-packed}
+use Rattle.streams.specs.Covered.{written}
+
+-- a packed run's entries lie in its body
+pub body-fits : (w groups m : ℕ) → m ≤ 8 * groups → m * w ≤ 8 * (w * groups)
+body-fits w groups m h = omega (arith, mul-le-mul-right w h, mul-assoc 8 groups w, mul-comm groups w)
+
+module _ {O : Type 0} (n : ℕ) (write : ℕ → ℕ → (ℕ → ℕ) → O → O) (w : ℕ) (page : List ℕ) (x : O) where
+  abbrev pub onward : ℕ → ℕ → O → Type 0
+  onward at i out = Comes (writing (written n write w)) x w (n - i) page at (i, out)
+
+  pub begins : (out : O) → x ≡ pass (written n write w) w n page out → onward 0 0 out
+  unfolding pass
+  begins out e =
+      let all : n ≡ n - 0 = omega arith in
+      record { turns = n; enough = omega arith; rest = e ∙ ap (λ (left : ℕ). walk (writing (written n write w)) w n left page 0 (0, out)) all }
+
+  module _ {at i : ℕ} {out : O} (some : i < n) (comes : onward at i out) where
+    -- a repeated run lies below n
+    pub on-repeated : {count value next : ℕ} {new : O} → runAt w (n - i) page at ≡ Repeated count value next → new ≡ write i count (λ _. value) out → onward next (i + count) new
+    on-repeated {count} {value} {next} {new} q e =
+        let fits = ran-repeated w (n - i) page at q in
+        let few : min count (n - i) ≡ count = omega arith in
+        let rest : n - i - count ≡ n - (i + count) = omega arith in
+        subst₂ (λ (left : ℕ) (o : O). Comes (writing (written n write w)) x w left page next (i + count, o)) rest
+        (ap (λ (m : ℕ). write i m (λ _. value) out) few ∙ sym e)
+        (repeated (writing (written n write w)) (omega arith) comes q)
+
+    -- a packed run may reach past it
+    pub on-packed : {groups start next : ℕ} {new : O} → runAt w (n - i) page at ≡ Packed groups start next
+        → new ≡ write i (min (8 * groups) (n - i)) (entry lowFirst (take (w * groups) (drop start page)) w) out → onward next (i + 8 * groups) new
+    on-packed {groups} {start} {next} {new} q e =
+        let rest : n - i - 8 * groups ≡ n - (i + 8 * groups) = omega arith in
+        subst₂ (λ (left : ℕ) (o : O). Comes (writing (written n write w)) x w left page next (i + 8 * groups, o)) rest (sym e)
+        (packs (writing (written n write w)) (omega arith) comes q)
+
+    -- a fault ends the pass where it is
+    pub on-refused : {code : ℕ} → runAt w (n - i) page at ≡ Refused code → x ≡ out
+    on-refused q = refused (writing (written n write w)) (omega arith) comes q
+
+  pub ends : {at i : ℕ} {out : O} → onward at i out → n ≤ i → x ≡ out
+  ends comes h = ended (writing (written n write w)) comes (omega arith)
