@@ -48,7 +48,7 @@ module _ (l : List ℕ) (p x m : ℕ) (room : p ≤ 8 * length l) (small : x < 2
 pub words-twice : (l b c : List ℕ) (p m k q n : ℕ) (f : ℕ → Bool) → p ≤ 8 * length l → q ≡ p + m → n ≡ m + k
     → b ≡ appended l p (word m f) m → c ≡ appended b q (word k (λ i. f (m + i))) k → c ≡ appended l p (word n f) n
 words-twice l b c p m k q n f room place whole e1 e2 =
-    e2 ∙ ap₂ (λ (d : List ℕ) (i : ℕ). appended d i (word k (λ i. f (m + i))) k) e1 place
+    e2 ∙ ap₂ (λ (d : List ℕ) (j : ℕ). appended d j (word k (λ i. f (m + i))) k) e1 place
     ∙ appended-twice l p (word m f) m room (word-lt m f) (word k (λ i. f (m + i))) k
     ∙ ap (λ (x : ℕ). appended l p x (m + k)) (sym (word-add m k f))
     ∙ ap (λ (i : ℕ). appended l p (word i f) i) (sym whole)

@@ -29,7 +29,7 @@ zeros-number (suc k) zero = refl
 zeros-number (suc k) (suc z) = zeros-number k z
 
 -- a bitmap with zeros behind it is the word of its test
-pub number-padded : (z n : ℕ) (f : ℕ → Bool) → number (put (replicate z 0) 0 (bitmap n f)) ≡ word n f
+number-padded : (z n : ℕ) (f : ℕ → Bool) → number (put (replicate z 0) 0 (bitmap n f)) ≡ word n f
 unfolding put
 number-padded z n f =
     let rest : List ℕ = drop (0 + length (bitmap n f)) (replicate z 0) in
@@ -58,11 +58,11 @@ pub part-word : (body : List ℕ) (a n w k : ℕ) (test : ℕ → Bool) → k * 
     → word k (λ i. test (entry lowFirst (take n (drop a body)) w i)) ≡ word k (λ i. test (field lowFirst body (8 * a + i * w) w))
 part-word body a n w k test h = word-ext k (λ i l. ap test (field-window body a n (i * w) w (omega (arith, place-within w i k l))))
 
--- the entries behind g groups of eight
-pub group-word : (body : List ℕ) (g w k : ℕ) (test : ℕ → Bool)
-    → word k (λ i. test (field lowFirst body (8 * (g * w) + i * w) w)) ≡ word k (λ i. test (entry lowFirst body w (8 * g + i)))
-group-word body g w k test =
-    let places : (i : ℕ) → 8 * (g * w) + i * w ≡ (8 * g + i) * w = λ i. rw (add-mul, mul-assoc) in
+-- the entries behind g groups of eight, whose bytes end at `at`
+pub group-word : (body : List ℕ) (g w at k : ℕ) (test : ℕ → Bool) → at ≡ g * w
+    → word k (λ i. test (field lowFirst body (8 * at + i * w) w)) ≡ word k (λ i. test (entry lowFirst body w (8 * g + i)))
+group-word body g w at k test e =
+    let places : (i : ℕ) → 8 * at + i * w ≡ (8 * g + i) * w = λ i. rw (e, add-mul, mul-assoc) in
     word-ext k (λ i l. ap (λ (b : ℕ). test (field lowFirst body b w)) (places i))
 
 -- g groups of eight entries are g × w bytes, and the other entries lie in the bytes behind them

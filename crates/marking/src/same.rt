@@ -51,7 +51,7 @@ fn mark_bytes(bitmap: &mut [u8], a: usize, m: usize, selected: bool)
     mark_few(bitmap, 8 * (a + k), m % 8, selected);
 }
 
-// m entries from bit p on.
+// m entries that are all selected, or none of them, from bit p on.
 pub fn mark_same(bitmap: &mut [u8], p: usize, m: usize, selected: bool)
     requires { ⌜ (0 < m) × (p ≤ 16384) × (m ≤ 16384) × (p + m ≤ 8 * length (now bitmap)) ⌝ }
     ensures { λ _. ⌜ now (bitmap .exit) ≡ appended (now (bitmap .entry)) p (word m (λ _. selected)) m ⌝ }

@@ -6,7 +6,7 @@ use native.Mathlib.Nat.{add-mul}
 use native.Mathlib.Omega.{arith}
 use lib.ListN.{length}
 use borrow.Author.Needs.{needs}
-use Rattle.rules.specs.Bits.{word, field, entry}
+use Rattle.rules.specs.Bits.{word, entry}
 use Rattle.rules.specs.Bits.Order.{lowFirst}
 use Rattle.rules.specs.Horizontal.{pageBytes}
 use Rattle.words.specs.Appended.{appended}
@@ -82,8 +82,7 @@ loop-again c =
     let stored : marked ≡ appended (l .bitmap) (a .p + 8 * l .g) (word 448 (λ i. test (8 * l .g + i))) 448 =
     c .before .before .mark-between .ensures
     ∙ ap (λ (x : ℕ). appended (l .bitmap) (a .p + 8 * l .g) x 448)
-    (ap (λ (b : ℕ). word 448 (λ i. ranged (a .range) (field lowFirst body (8 * b + i * a .w) (a .w)))) (l .inv .1)
-    ∙ group-word body (l .g) (a .w) 448 (ranged (a .range))) in (
+    (group-word body (l .g) (a .w) (l .at) 448 (ranged (a .range)) (l .inv .1)) in (
       omega arith,
       omega (arith, add-mul (l .g) 56 (a .w)),
       size ∙ l .inv .2,
@@ -126,8 +125,7 @@ returns c =
     let stored : marked ≡ appended (l .bitmap) (a .p + 8 * l .g) (word rest (λ i. test (8 * l .g + i))) rest =
     c .before .before .mark-between2 .ensures
     ∙ ap (λ (x : ℕ). appended (l .bitmap) (a .p + 8 * l .g) x rest)
-    (ap (λ (b : ℕ). word rest (λ i. ranged (a .range) (field lowFirst body (8 * b + i * a .w) (a .w)))) (l .inv .1)
-    ∙ group-word body (l .g) (a .w) rest (ranged (a .range))) in
+    (group-word body (l .g) (a .w) (l .at) rest (ranged (a .range)) (l .inv .1)) in
     ended-words (a .bitmap .now) (l .bitmap) marked (a .p) (8 * l .g) rest test (l .inv .3) stored
     ∙ ap (λ (m : ℕ). appended (a .bitmap .now) (a .p) (word m test) m) whole
 
