@@ -2,3 +2,4 @@ pub mod Covered
 pub mod Marked
 pub mod Placed
 pub mod Turns
+pub mod Values
