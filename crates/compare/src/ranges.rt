@@ -2,8 +2,8 @@
 ghost use mathlib.Core.Path.{_≡_};
 ghost use Prim.Native.Nat.{_+_, _<_};
 ghost use Rattle.compare.specs.Range.{cutOf, nextOf, flipOf, rangeOf, ranged};
-use std::num::wrapping_sub_u32;
 use crate::bands::Band;
+use std::num::wrapping_sub_u32;
 
 // From low to low + span, or where flip is 255 all others.
 pub struct Range {

@@ -61,7 +61,6 @@ module _ {O : Type 0} (n : ℕ) (write : ℕ → ℕ → (ℕ → ℕ) → O →
   -- what is in place after i entries
   module _ (w : ℕ) (holding : ℕ → (ℕ → ℕ) → O)
       (grows : (i m : ℕ) (f value : ℕ → ℕ) → i + m ≤ n → ((k : ℕ) → k < m → value k ≡ f (i + k)) → write i m value (holding i f) ≡ holding (i + m) f) where
-
     -- the last run may reach past n, and then no run follows
     over : (left i : ℕ) (s : List ℕ) (ps : List Piece) (f : ℕ → ℕ) → Cut w left s ps → left ≡ 0 → putAll (written w) i ps (holding n f) ≡ holding n f
     over left i s ps f done z = refl

@@ -1,16 +1,19 @@
 -- The places that a stream's runs fill hold its entries.
-use mathlib.Core.Path.{_≡_, sym, ap, _∙_}
+use mathlib.Core.Path.{_≡_, refl, sym, ap, _∙_}
 use mathlib.Core.List.{List, []}
-use Prim.Native.Nat.{ℕ, _+_, _≤_, _<_}
+use Prim.Native.Nat.{ℕ, _+_, _*_, _≤_, _<_, min}
 use native.Mathlib.Omega.{arith}
-use lib.ListN.{length, getD}
-use Rattle.rules.specs.Bits.{put, tabulate}
+use lib.ListN.{length, getD, take, drop}
+use Rattle.rules.specs.Bits.{field, entry, put, tabulate}
+use Rattle.rules.specs.Bits.Order.{lowFirst}
 use Rattle.rules.specs.Runs.{Piece, cutEntries}
 use Rattle.rules.specs.Grammar.{Cut}
+use Rattle.words.specs.Entries.{field-window, place-within}
 use Rattle.words.specs.Puts.{put-none}
 use Rattle.words.specs.Tabulated.{tabulate-ext, put-tabulate-add}
 use Rattle.runs.specs.Second.{putAll, pass, pass-cut}
 use Rattle.streams.specs.Covered.{written, covers}
+use Rattle.streams.specs.Turns.{body-fits}
 
 -- m entries are put into the places behind those that are filled
 abbrev pub places : ℕ → ℕ → (ℕ → ℕ) → List ℕ → List ℕ
@@ -38,3 +41,24 @@ placed-cut w n page ps out room cut =
     grows : (i m : ℕ) (f value : ℕ → ℕ) → i + m ≤ n → ((k : ℕ) → k < m → value k ≡ f (i + k)) → places i m value (holding i f) ≡ holding (i + m) f
     grows i m f value fits e =
         ap (put (put out 0 (tabulate i f)) i) (tabulate-ext m value (λ k. f (i + k)) e) ∙ put-tabulate-add out i m f (omega arith)
+
+pub placed-pass : (w n : ℕ) (page out : List ℕ) → placed w n page out ≡ pass (written n places w) w n page out
+unfolding placed
+placed-pass w n page out = refl
+
+-- ---- a packed run
+
+-- entries that lie in n bytes from byte a on
+pub part-entries : (page : List ℕ) (a n w m : ℕ) → m * w ≤ 8 * n
+    → tabulate m (entry lowFirst (take n (drop a page)) w) ≡ tabulate m (λ k. field lowFirst page (8 * a + k * w) w)
+part-entries page a n w m h =
+    tabulate-ext m (entry lowFirst (take n (drop a page)) w) (λ k. field lowFirst page (8 * a + k * w) w) (λ k l. field-window page a n (k * w) w (omega (arith, place-within w k m l)))
+
+-- its entries, as they lie in the page
+pub placed-body : (page out new : List ℕ) (w start groups left i m : ℕ) → m ≡ min (8 * groups) left
+    → new ≡ put out i (tabulate m (λ k. field lowFirst page (8 * start + k * w) w))
+    → new ≡ places i (min (8 * groups) left) (entry lowFirst (take (w * groups) (drop start page)) w) out
+placed-body page out new w start groups left i m few e =
+    e
+    ∙ ap (put out i) (sym (part-entries page start (w * groups) w m (body-fits w groups m (omega arith))))
+    ∙ ap (λ (k : ℕ). places i k (entry lowFirst (take (w * groups) (drop start page)) w) out) few

@@ -26,6 +26,7 @@ use Rattle.compare.specs.declared.bands.Band.{Band}
 use Rattle.runs.specs.Exact.{exact, accepted}
 use Rattle.streams.specs.Covered.{pieceEntry, cut-first, cut-rest}
 use Rattle.streams.specs.Marked.{marked, marked-cut}
+use Rattle.streams.specs.Placed.{placed, placed-cut}
 
 -- ---- below 2^32
 
@@ -67,3 +68,9 @@ marked-banded band w n page out h none =
     marked-cut (ranged (rangeOf band)) w n page ps out (cut .1)
     ∙ ap (put out 0) (bitmap-ext n (λ i l. ranged-band band (getD (cutEntries w ps) i 0) (cut-small i h (cut .1))
     ∙ ap (λ s. banded band (pos (streamEntry w s i))) (sym read-good)))
+
+pub placed-read : (w n : ℕ) (page out : List ℕ) → n ≤ length out → streamFault (read w n page) ≡ 0
+    → placed w n page out ≡ put out 0 (tabulate n (streamEntry w (read w n page)))
+placed-read w n page out room none =
+    let cut = accepted w n page .0 none in
+    placed-cut w n page (cut .0) out room (cut .1) ∙ ap (λ s. put out 0 (tabulate n (streamEntry w s))) (sym (exact w n page (cut .0) .1 (cut .1)))

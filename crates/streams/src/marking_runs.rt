@@ -15,7 +15,15 @@ use rules::Run;
 use runs::reading::run_at;
 
 // The first m entries of the packed run whose body begins at byte `start`, from bit p on.
-fn mark_body(page: &[u8], start: usize, w: usize, m: usize, range: Range, bitmap: &mut [u8], p: usize)
+fn mark_body(
+    page: &[u8],
+    start: usize,
+    w: usize,
+    m: usize,
+    range: Range,
+    bitmap: &mut [u8],
+    p: usize,
+)
     requires { ⌜ (w ≤ 32) × (0 < m) × (m ≤ 16384) × (p ≤ 16384) × (start + ceil (m * w) 8 ≤ length (now page)) × (p + m ≤ 8 * length (now bitmap)) × (range .low + range .span < 4294967296) × (range .flip % 255 ≡ 0) ⌝ }
     ensures { λ _. ⌜ now (bitmap .exit) ≡ appended (now (bitmap .entry)) p (word m (λ k. ranged range (field lowFirst (now (page .entry)) (8 * start + k * w) w))) m ⌝ }
 {
@@ -24,7 +32,7 @@ fn mark_body(page: &[u8], start: usize, w: usize, m: usize, range: Range, bitmap
 }
 
 // How many of a run's entries are below n.
-fn below(entries: usize, left: usize) -> usize
+pub fn below(entries: usize, left: usize) -> usize
     ensures { λ r. ⌜ r ≡ min entries left ⌝ }
 {
     if left < entries {

@@ -66,9 +66,12 @@ loop-again : tie.Need-loop-again Inv-loop μ-loop
 loop-again c =
     let r = c .before .before .before .before .before in
     let b = r .before .before .before .before .before in
-    let ran = ran-repeated _ _ _ _ (repeated-run r) in
-    (omega arith, search needs, on-repeated _ (marks (ranged (b .before .before .before .args .range))) _ _ _ (omega arith) (b .loop .inv .2) (repeated-run r)
-    (c .before .before .mark-same .ensures ∙ ap (λ (t : Bool). appended (b .loop .bitmap) (b .loop .i) (word (r .before .run .given .0 .0) (λ _. t)) (r .before .run .given .0 .0)) (c .before .before .before .passes .ensures)))
+    let ran = ran-repeated _ _ _ _ (repeated-run r) in (
+      omega arith,
+      search needs,
+      on-repeated _ (marks (ranged (b .before .before .before .args .range))) _ _ _ (omega arith) (b .loop .inv .2) (repeated-run r)
+          (c .before .before .mark-same .ensures ∙ ap (λ (t : Bool). appended (b .loop .bitmap) (b .loop .i) (word (r .before .run .given .0 .0) (λ _. t)) (r .before .run .given .0 .0)) (c .before .before .before .passes .ensures)),
+    )
 
 enum-known-run-2 : tie.Need-enum-known-run-2 Inv-loop μ-loop
 enum-known-run-2 c = search needs
@@ -105,9 +108,12 @@ loop-again-2 c =
     let b = r .before .before .before .before .before in
     let a = b .before .before .before .args in
     let v = r .before .run2 .given .0 in
-    let ran = ran-packed _ _ _ _ (packed-run r) in
-    (omega arith, search needs, on-packed _ (marks (ranged (b .before .before .before .args .range))) _ _ _ (omega arith) (b .loop .inv .2) (packed-run r)
-    (marked-body (ranged (a .range)) (a .page .now) _ _ (a .w) (v .1 .0) (v .0) _ _ _ (c .before .before .before .before .below .ensures) (c .before .before .mark-body .ensures)))
+    let ran = ran-packed _ _ _ _ (packed-run r) in (
+      omega arith,
+      search needs,
+      on-packed _ (marks (ranged (b .before .before .before .args .range))) _ _ _ (omega arith) (b .loop .inv .2) (packed-run r)
+          (marked-body (ranged (a .range)) (a .page .now) _ _ (a .w) (v .1 .0) (v .0) _ _ _ (c .before .before .before .before .below .ensures) (c .before .before .mark-body .ensures)),
+    )
 
 enum-told : tie.Need-enum-told Inv-loop μ-loop
 enum-told c = search needs
