@@ -1,4 +1,4 @@
-pub mod Values
+pub mod Parts
 pub mod Shown
 pub mod Turns
 pub mod Complete
