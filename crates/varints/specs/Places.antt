@@ -1,9 +1,9 @@
 -- A number of W bits at a place of a page: what is found there, and where it ends.
-use mathlib.Core.Path.{_≡_, refl, sym, ap, _∙_}
-use mathlib.Core.List.{List, [], _∷_, _++_}
-use Prim.Native.Nat.{ℕ, zero, suc, _+_, _-_, _*_, _/_, _^_, _<_, _≤_}
+use mathlib.Core.Path.{_≡_, refl, ap, _∙_}
+use mathlib.Core.List.{List, _++_}
+use Prim.Native.Nat.{ℕ, zero, suc, _+_, _-_, _*_, _^_, _<_, _≤_}
 use native.Mathlib.Omega.{arith}
-use lib.ListN.{length, take, drop, length-take, length-drop}
+use lib.ListN.{length, drop, length-take, length-drop}
 use lib.Pow.{pow-pos, pow-mono, pow-add}
 use Rattle.rules.specs.declared.Number.{Number}
 use Rattle.rules.specs.declared.Number.the-variants.{Read, Ended, Beyond}
@@ -11,7 +11,8 @@ use Rattle.rules.specs.Varint.{uleb, moved, furtherOf, topOf, numberAt}
 use Rattle.rules.specs.Grammar.{Spells}
 use Rattle.varints.specs.Spelling.{bound, Spelt, found, finds, spells-some}
 
-bound-pow : (d k : ℕ) → bound (2 ^ d) k ≡ 2 ^ (d + 7 * k)
+-- d bits in the last byte, seven in each before it
+pub bound-pow : (d k : ℕ) → bound (2 ^ d) k ≡ 2 ^ (d + 7 * k)
 bound-pow d zero = ap (λ (n : ℕ). 2 ^ n) (omega arith)
 bound-pow d (suc k) =
     let e : d + 7 * suc k ≡ d + 7 * k + 7 = omega arith in

@@ -1,5 +1,5 @@
--- What a reader of a variable-length number finds: spellings that are short and small enough, and every one of them. Over `top` and `more` of `uleb`.
-use mathlib.Core.Path.{_≡_, refl, sym, ap, _∙_}
+-- What a reader of a variable-length number finds: spellings that are short and small enough, and every one of them. At most k bytes follow the first.
+use mathlib.Core.Path.{_≡_, refl, ap}
 use mathlib.Core.Bool.{Bool, true, false, cond}
 use mathlib.Core.List.{List, [], _∷_, _++_}
 use Prim.Native.Nat.{ℕ, zero, suc, _+_, _*_, _%_, _<_, _≤_}
@@ -44,7 +44,8 @@ found top zero some low (b ∷ s) v used e = go (ltb b top) refl e
     go false h q = let z : _≡_ {A = ℕ} 0 1 = cc in absurd (omega arith)
 found top (suc k) some low (b ∷ s) v used e = go (found top k some low s) (ltb b 128) refl e
   where
-    after : ((x u : ℕ) → uleb top k s ≡ Read x u → Spelt top k s x u) → 128 ≤ b → (n : Number) → uleb top k s ≡ n → below b n ≡ Read v used → Spelt top (suc k) (b ∷ s) v used
+    after : ((x u : ℕ) → uleb top k s ≡ Read x u → Spelt top k s x u) → 128 ≤ b
+        → (n : Number) → uleb top k s ≡ n → below b n ≡ Read v used → Spelt top (suc k) (b ∷ s) v used
     after rest h (Read x u) q e′ =
         let p : b % 128 + 128 * x ≡ v = cc in
         let r : suc u ≡ used = cc in
@@ -53,7 +54,8 @@ found top (suc k) some low (b ∷ s) v used e = go (found top k some low s) (ltb
     after rest h Ended q e′ = let z : _≡_ {A = ℕ} 0 1 = cc in absurd (omega arith)
     after rest h Beyond q e′ = let z : _≡_ {A = ℕ} 0 1 = cc in absurd (omega arith)
 
-    go : ((x u : ℕ) → uleb top k s ≡ Read x u → Spelt top k s x u) → (t : Bool) → ltb b 128 ≡ t → cond t (Read b 1) (below b (uleb top k s)) ≡ Read v used → Spelt top (suc k) (b ∷ s) v used
+    go : ((x u : ℕ) → uleb top k s ≡ Read x u → Spelt top k s x u) → (t : Bool) → ltb b 128 ≡ t
+        → cond t (Read b 1) (below b (uleb top k s)) ≡ Read v used → Spelt top (suc k) (b ∷ s) v used
     go rest true h q =
         let p : b ≡ v = cc in
         let r : 1 ≡ used = cc in

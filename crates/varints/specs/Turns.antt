@@ -1,7 +1,7 @@
 -- The turns of a reader that goes through a number's bytes with a sum and the weight of the next seven bits.
 use mathlib.Core.Path.{_≡_, refl, sym, ap, ap₂, _∙_}
 use mathlib.Core.Bool.{cond}
-use mathlib.Core.List.{List, [], _∷_}
+use mathlib.Core.List.{List, []}
 use Prim.Native.Nat.{ℕ, zero, suc, _+_, _-_, _*_, _%_, _^_, _<_, _≤_}
 use native.Mathlib.Nat.{mul-add, mul-assoc, mul-le-mul-left, pow-succ', add-assoc, mul-suc, one-le-pow, one-mul}
 use native.Mathlib.Numerals.{add-one}
