@@ -7,3 +7,4 @@ pub mod Exact
 pub mod Walks
 pub mod Second
 pub mod One
+pub mod Entries
