@@ -15,6 +15,7 @@ use Rattle.rules.specs.Grammar.OneRun.{repeats, packs}
 use Rattle.rules.specs.Grammar.Cut.{done, next}
 use Rattle.rules.specs.declared.Number.the-variants.{Read}
 use Rattle.varints.specs.Places.{finds-at}
+use Rattle.runs.specs.Parts.{part-size}
 use Rattle.runs.specs.Turns.{turn, end}
 
 -- what lies behind a part that is passed
@@ -33,7 +34,7 @@ module _ (page t v rest : List ℕ) (at : ℕ) (e : drop at page ≡ (t ++ v) ++
   body = past page t (v ++ rest) at apart
 
   body-size : length page - (at + length t) ≡ length v + length rest
-  body-size = sym (length-drop (at + length t) page) ∙ ap length body ∙ length-append v rest
+  body-size = part-size page (at + length t) body ∙ length-append v rest
 
   whole : at + length t + length v - at ≡ length (t ++ v)
   whole = omega (arith, length-append t v)

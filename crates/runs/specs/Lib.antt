@@ -1,4 +1,4 @@
-pub mod Values
+pub mod Parts
 pub mod Shown
 pub mod Turns
 pub mod Complete
@@ -7,3 +7,4 @@ pub mod Exact
 pub mod Walks
 pub mod Second
 pub mod One
+pub mod Entries

@@ -3,13 +3,14 @@ use mathlib.Core.Path.{_≡_, refl, _∙_}
 use mathlib.Core.List.{List, [], _∷_}
 use Prim.{Unit, tt}
 use Prim.Native.Nat.{ℕ, zero, suc, _+_, _-_, _*_}
+use native.Mathlib.Omega.{arith}
 use Rattle.rules.specs.Runs.{Piece, Stream, entries, runAt, also, atEnd, after, readAt, read, streamFault}
 use Rattle.rules.specs.Runs.Stream.{good, bad}
 use Rattle.rules.specs.Grammar.{Cut}
 use Rattle.rules.specs.declared.Run.{Run}
 use Rattle.rules.specs.declared.Run.the-variants.{Repeated, Packed, Refused}
 use Rattle.runs.specs.Exact.{exact}
-use Rattle.runs.specs.Walks.{Work, walk, steps, onRun, walk-good}
+use Rattle.runs.specs.Walks.{Work, Comes, walk, steps, onRun, walk-good}
 
 -- ---- the first: only the code
 
@@ -20,7 +21,7 @@ fault-also : (p : Piece) (s : Stream) → streamFault (also p s) ≡ streamFault
 fault-also p (good ps) = refl
 fault-also p (bad code) = refl
 
-pub judged : (w turns left : ℕ) (page : List ℕ) (at : ℕ) → streamFault (readAt w turns left page at) ≡ walk judge w turns left page at tt
+judged : (w turns left : ℕ) (page : List ℕ) (at : ℕ) → streamFault (readAt w turns left page at) ≡ walk judge w turns left page at tt
 judged w zero zero page at = refl
 judged w (suc turns) zero page at = refl
 judged w zero (suc left) page at = refl
@@ -32,6 +33,11 @@ judged w (suc turns) (suc left) page at = go (λ l next. judged w turns l page n
     go rest (Repeated count value next) = fault-also _ (readAt w turns (suc left - count) page next) ∙ rest (suc left - count) next
     go rest (Packed groups start next) = fault-also _ (readAt w turns (suc left - 8 * groups) page next) ∙ rest (suc left - 8 * groups) next
 
+-- what the loop that judges begins with
+pub judge-comes : (w n : ℕ) (page : List ℕ) → Comes judge (streamFault (read w n page)) w n page 0 tt
+unfolding read
+judge-comes w n page = record { turns = n; enough = omega arith; rest = judged w n n page 0 }
+
 -- ---- the second, over any way in which a run writes: `put i p out` is what the run p leaves, which begins at entry i
 
 module _ {O : Type 0} (put : ℕ → Piece → O → O) where
@@ -41,6 +47,11 @@ module _ {O : Type 0} (put : ℕ → Piece → O → O) where
 
   unfoldable pub pass : ℕ → ℕ → List ℕ → O → O
   pass w n page out = walk writing w n n page 0 (0, out)
+
+  -- what the loop that writes begins with
+  pub pass-comes : (w n : ℕ) (page : List ℕ) (out : O) → Comes writing (pass w n page out) w n page 0 (0, out)
+  unfolding pass
+  pass-comes w n page out = record { turns = n; enough = omega arith; rest = refl }
 
   -- what runs write, one after the other, from entry i on
   abbrev pub putAll : ℕ → List Piece → O → O

@@ -60,29 +60,29 @@ module _ {S R : Type 0} (work : Work S R) where
         go zero l e = absurd (omega arith)
         go (suc turns) l e = f turns l (e ∙ turn w turns left page at kept some)
 
-    pub refused : {code : ℕ} → runAt w left page at ≡ Refused code → x ≡ work .fault code kept
-    refused q = taken (λ turns l e. e ∙ ap (onRun w left page at kept (λ m n k. walk w turns m page n k)) q)
+    pub on-refused : {code : ℕ} → runAt w left page at ≡ Refused code → x ≡ work .fault code kept
+    on-refused q = taken (λ turns l e. e ∙ ap (onRun w left page at kept (λ m n k. walk w turns m page n k)) q)
 
-    pub repeated : {count value next : ℕ} → runAt w left page at ≡ Repeated count value next
+    pub on-repeated : {count value next : ℕ} → runAt w left page at ≡ Repeated count value next
         → Comes x w (left - count) page next (work .step (same (next - at) count value) kept)
-    repeated q =
+    on-repeated q =
         taken (λ turns l e. record {
           turns = turns;
           enough = omega (arith, ran-repeated w left page at q);
           rest = e ∙ ap (onRun w left page at kept (λ m n k. walk w turns m page n k)) q;
         })
 
-    pub packs : {groups start next : ℕ} → runAt w left page at ≡ Packed groups start next
+    pub on-packed : {groups start next : ℕ} → runAt w left page at ≡ Packed groups start next
         → Comes x w (left - 8 * groups) page next (work .step (packed (next - at) groups (take (w * groups) (drop start page))) kept)
-    packs q =
+    on-packed q =
         taken (λ turns l e. record {
           turns = turns;
           enough = omega (arith, ran-packed w left page at q);
           rest = e ∙ ap (onRun w left page at kept (λ m n k. walk w turns m page n k)) q;
         })
 
-  pub ended : {x : R} {w left : ℕ} {page : List ℕ} {at : ℕ} {kept : S} → Comes x w left page at kept → left ≤ 0 → x ≡ work .end (ltb at (length page)) kept
-  ended {x} {w} {left} {page} {at} {kept} comes none =
+  pub on-end : {x : R} {w left : ℕ} {page : List ℕ} {at : ℕ} {kept : S} → Comes x w left page at kept → left ≤ 0 → x ≡ work .end (ltb at (length page)) kept
+  on-end {x} {w} {left} {page} {at} {kept} comes none =
       let z : left ≡ 0 = omega arith in
       comes .rest ∙ ap (λ (l : ℕ). walk w (comes .turns) l page at kept) z ∙ last w (comes .turns) page at kept
 

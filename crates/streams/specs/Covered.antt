@@ -16,7 +16,8 @@ use Rattle.rules.specs.Runs.Piece.{same, packed}
 use Rattle.rules.specs.Grammar.{OneRun, Cut}
 use Rattle.rules.specs.Grammar.OneRun.{repeats, packs}
 use Rattle.rules.specs.Grammar.Cut.{done, next}
-use Rattle.words.specs.Tabulated.{length-tabulate, getD-tabulate}
+use Rattle.words.specs.Tabulated.{getD-tabulate}
+use Rattle.runs.specs.Entries.{length-piece}
 use Rattle.runs.specs.Second.{putAll}
 
 -- entry k of one run
@@ -24,18 +25,10 @@ abbrev pub pieceEntry : ℕ → Piece → ℕ → ℕ
 pieceEntry w (same size count value) k = value
 pieceEntry w (packed size groups body) k = entry lowFirst body w k
 
-length-replicate : (n x : ℕ) → length (replicate n x) ≡ n
-length-replicate zero x = refl
-length-replicate (suc n) x = ap suc (length-replicate n x)
-
 getD-replicate : (n x k : ℕ) → k < n → getD (replicate n x) k 0 ≡ x
 getD-replicate zero x k h = absurd (omega arith)
 getD-replicate (suc n) x zero h = refl
 getD-replicate (suc n) x (suc k) h = getD-replicate n x k (omega arith)
-
-length-piece : (w : ℕ) (p : Piece) → length (pieceEntries w p) ≡ entries p
-length-piece w (same size count value) = length-replicate count value
-length-piece w (packed size groups body) = length-tabulate (8 * groups) (entry lowFirst body w)
 
 getD-piece : (w : ℕ) (p : Piece) (k : ℕ) → k < entries p → getD (pieceEntries w p) k 0 ≡ pieceEntry w p k
 getD-piece w (same size count value) k h = getD-replicate count value k h

@@ -9,8 +9,9 @@ use Rattle.rules.specs.Bits.{entry}
 use Rattle.rules.specs.Bits.Order.{lowFirst}
 use Rattle.rules.specs.Runs.{runAt}
 use Rattle.rules.specs.declared.Run.the-variants.{Repeated, Packed, Refused}
-use Rattle.runs.specs.Walks.{Comes, walk, repeated, packs, refused, ended}
-use Rattle.runs.specs.Second.{writing, pass}
+use Rattle.runs.specs.Walks.{Comes}
+use Rattle.runs.specs.Walks as Walks
+use Rattle.runs.specs.Second.{writing, pass, pass-comes}
 use Rattle.runs.specs.Shown.{ran-repeated, ran-packed}
 use Rattle.streams.specs.Covered.{written}
 
@@ -23,10 +24,9 @@ module _ {O : Type 0} (n : ℕ) (write : ℕ → ℕ → (ℕ → ℕ) → O →
   onward at i out = Comes (writing (written n write w)) x w (n - i) page at (i, out)
 
   pub begins : (out : O) → x ≡ pass (written n write w) w n page out → onward 0 0 out
-  unfolding pass
   begins out e =
       let all : n ≡ n - 0 = omega arith in
-      record { turns = n; enough = omega arith; rest = e ∙ ap (λ (left : ℕ). walk (writing (written n write w)) w n left page 0 (0, out)) all }
+      subst₂ (λ (y : O) (left : ℕ). Comes (writing (written n write w)) y w left page 0 (0, out)) (sym e) all (pass-comes (written n write w) w n page out)
 
   module _ {at i : ℕ} {out : O} (some : i < n) (comes : onward at i out) where
     -- a repeated run lies below n
@@ -37,7 +37,7 @@ module _ {O : Type 0} (n : ℕ) (write : ℕ → ℕ → (ℕ → ℕ) → O →
         let rest : n - i - count ≡ n - (i + count) = omega arith in
         subst₂ (λ (left : ℕ) (o : O). Comes (writing (written n write w)) x w left page next (i + count, o)) rest
         (ap (λ (m : ℕ). write i m (λ _. value) out) few ∙ sym e)
-        (repeated (writing (written n write w)) (omega arith) comes q)
+        (Walks.on-repeated (writing (written n write w)) (omega arith) comes q)
 
     -- a packed run may reach past it
     pub on-packed : {groups start next : ℕ} {new : O} → runAt w (n - i) page at ≡ Packed groups start next
@@ -45,11 +45,11 @@ module _ {O : Type 0} (n : ℕ) (write : ℕ → ℕ → (ℕ → ℕ) → O →
     on-packed {groups} {start} {next} {new} q e =
         let rest : n - i - 8 * groups ≡ n - (i + 8 * groups) = omega arith in
         subst₂ (λ (left : ℕ) (o : O). Comes (writing (written n write w)) x w left page next (i + 8 * groups, o)) rest (sym e)
-        (packs (writing (written n write w)) (omega arith) comes q)
+        (Walks.on-packed (writing (written n write w)) (omega arith) comes q)
 
     -- a fault ends the pass where it is
     pub on-refused : {code : ℕ} → runAt w (n - i) page at ≡ Refused code → x ≡ out
-    on-refused q = refused (writing (written n write w)) (omega arith) comes q
+    on-refused q = Walks.on-refused (writing (written n write w)) (omega arith) comes q
 
   pub ends : {at i : ℕ} {out : O} → onward at i out → n ≤ i → x ≡ out
-  ends comes h = ended (writing (written n write w)) comes (omega arith)
+  ends comes h = Walks.on-end (writing (written n write w)) comes (omega arith)

@@ -9,8 +9,8 @@ use borrow.Author.Tests.{lt-ltb, le-ltb}
 use Rattle.rules.specs.Runs.{runAt, read, streamFault}
 use Rattle.rules.specs.declared.Run.the-variants.{Repeated, Packed}
 use Rattle.runs.specs.Shown.{ran-repeated, ran-packed}
-use Rattle.runs.specs.Walks.{Comes, refused, repeated, packs, ended}
-use Rattle.runs.specs.Second.{judge, judged}
+use Rattle.runs.specs.Walks.{Comes, on-refused, on-repeated, on-packed, on-end}
+use Rattle.runs.specs.Second.{judge, judge-comes}
 use Rattle.runs.proofs.judging.stream_fault.Statement.{statement}
 use Rattle.runs.proofs.judging.stream_fault.Tie as tie
 
@@ -21,10 +21,7 @@ abbrev μ-loop : tie.MeasureT-loop
 μ-loop page w n at₀ left₀ at left = left
 
 loop-holds : tie.Need-loop-holds Inv-loop μ-loop
-unfolding read
-loop-holds c =
-    let a = c .before .args in
-    (search needs, record { turns = a .n; enough = search needs; rest = judged (a .w) (a .n) (a .n) (a .page .now) 0 })
+loop-holds c = (search needs, judge-comes _ _ _)
 
 run-at-requires : tie.Need-run-at-requires Inv-loop μ-loop
 run-at-requires c κs = search needs
@@ -50,7 +47,7 @@ loop-less c = omega (arith, ran-repeated _ _ _ _ (repeated-run (c .before)), c .
 loop-again : tie.Need-loop-again Inv-loop μ-loop
 loop-again c =
     let b = c .before .before .before .before .before in
-    (omega (arith, c .still-left .ensures), rw (c .still-left .ensures) (repeated judge (b .loop-test .taken) (b .before .loop .inv .1) (repeated-run (c .before))))
+    (omega (arith, c .still-left .ensures), rw (c .still-left .ensures) (on-repeated judge (b .loop-test .taken) (b .before .loop .inv .1) (repeated-run (c .before))))
 
 enum-known-run-2 : tie.Need-enum-known-run-2 Inv-loop μ-loop
 enum-known-run-2 c = search needs
@@ -67,7 +64,7 @@ loop-less-2 c = omega (arith, ran-packed _ _ _ _ (packed-run (c .before)), c .st
 loop-again-2 : tie.Need-loop-again-2 Inv-loop μ-loop
 loop-again-2 c =
     let b = c .before .before .before .before .before in
-    (omega (arith, c .still-left2 .ensures), rw (c .still-left2 .ensures) (packs judge (b .loop-test .taken) (b .before .loop .inv .1) (packed-run (c .before))))
+    (omega (arith, c .still-left2 .ensures), rw (c .still-left2 .ensures) (on-packed judge (b .loop-test .taken) (b .before .loop .inv .1) (packed-run (c .before))))
 
 enum-known-run-3 : tie.Need-enum-known-run-3 Inv-loop μ-loop
 enum-known-run-3 c = search needs
@@ -75,13 +72,13 @@ enum-known-run-3 c = search needs
 returns : tie.Need-returns Inv-loop μ-loop
 returns c =
     let b = c .before .before .before .before in
-    sym (refused judge (b .loop-test .taken) (b .before .loop .inv .1) (sym (c .before .before .before .run-at .ensures) ∙ c .before .run3 .given .1))
+    sym (on-refused judge (b .loop-test .taken) (b .before .loop .inv .1) (sym (c .before .before .before .run-at .ensures) ∙ c .before .run3 .given .1))
 
 returns-2 : tie.Need-returns-2 Inv-loop μ-loop
-returns-2 c = sym (ended judge (c .before .before .loop .inv .1) (search needs) ∙ rw (lt-ltb _ _ (c .if1 .taken)))
+returns-2 c = sym (on-end judge (c .before .before .loop .inv .1) (search needs) ∙ rw (lt-ltb _ _ (c .if1 .taken)))
 
 returns-3 : tie.Need-returns-3 Inv-loop μ-loop
-returns-3 c = sym (ended judge (c .before .before .loop .inv .1) (search needs) ∙ rw (le-ltb _ _ (c .if1 .left)))
+returns-3 c = sym (on-end judge (c .before .before .loop .inv .1) (search needs) ∙ rw (le-ltb _ _ (c .if1 .left)))
 
 pub stream-fault-spec : {M : Type 1} → statement M
 stream-fault-spec =

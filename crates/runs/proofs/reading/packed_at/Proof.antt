@@ -1,12 +1,12 @@
 -- `runs::reading::packed_at` meets its contract: its tests are those of the rule, on the length of the page's rest.
-use mathlib.Core.Path.{_≡_, sym, ap, _∙_}
-use Prim.Native.Nat.{_+_, _-_, _*_}
+use Prim.Native.Nat.{_+_, _*_}
 use native.Mathlib.Nat.{mul-le-mul-right}
 use native.Mathlib.Omega.{arith}
-use lib.ListN.{length, length-drop}
+use lib.ListN.{length}
 use borrow.Author.Needs.{needs}
 use borrow.Author.Tests.{lt-ltb, le-ltb}
 use Rattle.rules.specs.Runs.{packedAt}
+use Rattle.runs.specs.Parts.{part-size}
 use Rattle.runs.proofs.reading.packed_at.Statement.{statement}
 use Rattle.runs.proofs.reading.packed_at.Tie as tie
 
@@ -24,11 +24,10 @@ returns-2 : tie.Need-returns-2
 unfolding packedAt
 returns-2 c page e =
     let a = c .before .before .args in
-    let size : length page - a .at ≡ length (a .part .now) = sym (length-drop (a .at) page) ∙ ap length e in
-    rw (le-ltb (a .left + 7) (8 * a .groups) (omega arith), size, lt-ltb _ _ (c .if2 .taken))
+    rw (le-ltb (a .left + 7) (8 * a .groups) (omega arith), part-size page (a .at) e, lt-ltb (length (a .part .now)) (a .w * a .groups) (omega arith))
 
 mul-t6 : tie.Need-mul-t6
-mul-t6 c = search needs
+mul-t6 c = mul-if2 (c .before)
 
 add-t7 : tie.Need-add-t7
 add-t7 c = search needs
@@ -37,8 +36,7 @@ returns-3 : tie.Need-returns-3
 unfolding packedAt
 returns-3 c page e =
     let a = c .before .before .args in
-    let size : length page - a .at ≡ length (a .part .now) = sym (length-drop (a .at) page) ∙ ap length e in
-    rw (le-ltb (a .left + 7) (8 * a .groups) (omega arith), size, le-ltb _ _ (c .if2 .left))
+    rw (le-ltb (a .left + 7) (8 * a .groups) (omega arith), part-size page (a .at) e, le-ltb (length (a .part .now)) (a .w * a .groups) (omega arith))
 
 pub packed-at-spec : {M : Type 1} → statement M
 packed-at-spec = tie.close (tie.spec add-if1 returns mul-if2 returns-2 mul-t6 add-t7 returns-3)

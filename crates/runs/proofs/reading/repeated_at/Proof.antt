@@ -1,20 +1,21 @@
 -- `runs::reading::repeated_at` meets its contract: its tests are those of the rule, on the page's rest; a value below 2^w fits.
-use mathlib.Core.Path.{_≡_, sym, ap, _∙_}
-use Prim.Native.Nat.{_-_, _^_, _<_, _≤_}
+use Prim.Native.Nat.{_^_, _<_}
 use native.Mathlib.Nat.{lt-of-lt-of-le}
 use native.Mathlib.Omega.{arith}
-use lib.ListN.{length, length-drop}
+use lib.ListN.{length}
 use lib.Pow.{pow-mono}
 use borrow.Author.Needs.{needs}
 use borrow.Author.Tests.{lt-ltb, le-ltb}
+use Rattle.rules.specs.Bits.{ceil}
 use Rattle.rules.specs.Runs.{repeatedAt}
 use Rattle.words.specs.Bits.{one-shl}
+use Rattle.runs.specs.Parts.{part-size}
 use Rattle.runs.proofs.reading.repeated_at.Statement.{statement}
 use Rattle.runs.proofs.reading.repeated_at.Tie as tie
 
 returns : tie.Need-returns
 unfolding repeatedAt
-returns c page e = rw (lt-ltb _ _ (c .if1 .taken))
+returns c page e = let a = c .before .before .args in rw (lt-ltb (a .left) (a .count) (omega arith))
 
 add-k : tie.Need-add-k
 add-k c = search needs
@@ -23,8 +24,7 @@ returns-2 : tie.Need-returns-2
 unfolding repeatedAt
 returns-2 c page e =
     let a = c .before .before .before .args in
-    let size : length page - a .at ≡ length (a .part .now) = sym (length-drop (a .at) page) ∙ ap length e in
-    rw (le-ltb _ _ (c .before .if1 .left), size, lt-ltb _ _ (c .if2 .taken))
+    rw (le-ltb (a .left) (a .count) (omega arith), part-size page (a .at) e, lt-ltb (length (a .part .now)) (ceil (a .w) 8) (omega arith))
 
 value-of-requires : tie.Need-value-of-requires
 value-of-requires c κs = search needs
@@ -32,17 +32,17 @@ value-of-requires c κs = search needs
 shl-if3 : tie.Need-shl-if3
 shl-if3 c = search needs
 
+-- a value that passes the test is below 2^w
+small : (c : tie.Else3) → c .before .value-of .result < 2 ^ c .before .before .before .before .before .args .w
+small c = omega (arith, one-shl 64 (c .before .before .before .before .before .args .w) (omega arith))
+
 returns-3 : tie.Need-returns-3
 unfolding repeatedAt
 returns-3 c page e =
     let a = c .before .before .before .before .before .args in
-    let size : length page - a .at ≡ length (a .part .now) = sym (length-drop (a .at) page) ∙ ap length e in
-    let large : 2 ^ a .w ≤ c .before .value-of .result = rw (one-shl 64 (a .w) (omega arith)) at (c .if3 .taken) in
-    rw (le-ltb _ _ (c .before .before .before .if1 .left), size, le-ltb _ _ (c .before .before .if2 .left), e, ← c .before .value-of .ensures, le-ltb _ _ large)
-
--- the value is below 2^w
-small : (c : tie.Else3) → c .before .value-of .result < 2 ^ c .before .before .before .before .before .args .w
-small c = rw (one-shl 64 (c .before .before .before .before .before .args .w) (omega arith)) at (c .if3 .left)
+    let v = c .before .value-of in
+    let shl = one-shl 64 (a .w) (omega arith) in
+    rw (le-ltb (a .left) (a .count) (omega arith), part-size page (a .at) e, le-ltb (length (a .part .now)) (ceil (a .w) 8) (omega arith), e, ← v .ensures, le-ltb (v .result) (2 ^ a .w) (omega arith))
 
 cast-t12 : tie.Need-cast-t12
 cast-t12 c = let w = c .before .before .before .before .before .args .w in record { fits = lt-of-lt-of-le (small c) (pow-mono {i = w} {j = 32} (omega arith)) }
@@ -54,8 +54,7 @@ returns-4 : tie.Need-returns-4
 unfolding repeatedAt
 returns-4 c page e =
     let a = c .before .before .before .before .before .args in
-    let size : length page - a .at ≡ length (a .part .now) = sym (length-drop (a .at) page) ∙ ap length e in
-    rw (le-ltb _ _ (c .before .before .before .if1 .left), size, le-ltb _ _ (c .before .before .if2 .left), e, ← c .before .value-of .ensures, lt-ltb _ _ (small c))
+    rw (le-ltb (a .left) (a .count) (omega arith), part-size page (a .at) e, le-ltb (length (a .part .now)) (ceil (a .w) 8) (omega arith), e, ← c .before .value-of .ensures, lt-ltb _ _ (small c))
 
 pub repeated-at-spec : {M : Type 1} → statement M
 repeated-at-spec =

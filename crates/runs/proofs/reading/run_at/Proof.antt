@@ -2,7 +2,7 @@
 use mathlib.Core.Logic.{⊎-elim}
 use mathlib.Core.Path.{_≡_, refl, sym, ap, _∙_}
 use mathlib.Core.List.{[], _∷_}
-use Prim.Native.Nat.{ℕ, _≤_}
+use Prim.Native.Nat.{ℕ, _/_, _≤_}
 use native.Mathlib.Omega.{arith}
 use lib.ListN.{length}
 use types.Run.{OneOf}
@@ -59,7 +59,7 @@ by-header : (c : tie.After-known-told) {r : Run} → let a = c .before .before .
 by-header c e = e ∙ ap (headed _ _ _) (sym (read c))
 
 returns-2 : tie.Need-returns-2
-returns-2 c = by-header (c .before) (rw (eq-eqb _ _ (c .if1 .taken)))
+returns-2 c = by-header (c .before) (rw (eq-eqb (header (c .before) / 2) 0 (omega arith)))
 
 sub-repeated-at : tie.Need-sub-repeated-at
 sub-repeated-at c = on-page (c .before .before)
@@ -89,13 +89,13 @@ returns-3 : tie.Need-returns-3
 returns-3 c =
     let k = c .before .before .before .before in
     let page = k .before .before .before .before .before .args .page .now in
-    by-header k (rw (ne-eqb _ _ (c .before .before .before .if1 .left), eq-eqb _ _ (c .before .before .if2 .taken)) (c .repeated-at .ensures page (sym (part-rest page (place k)))))
+    by-header k (rw (ne-eqb (header k / 2) 0 (λ none. omega arith), eq-eqb _ _ (c .before .before .if2 .taken)) (c .repeated-at .ensures page (sym (part-rest page (place k)))))
 
 returns-4 : tie.Need-returns-4
 returns-4 c =
     let k = c .before .before .before .before in
     let page = k .before .before .before .before .before .args .page .now in
-    by-header k (rw (ne-eqb _ _ (c .before .before .before .if1 .left), ne-eqb _ _ (c .before .before .if2 .left)) (c .packed-at .ensures page (sym (part-rest page (place k)))))
+    by-header k (rw (ne-eqb (header k / 2) 0 (λ none. omega arith), ne-eqb _ _ (c .before .before .if2 .left)) (c .packed-at .ensures page (sym (part-rest page (place k)))))
 
 pub run-at-spec : {M : Type 1} → statement M
 run-at-spec =

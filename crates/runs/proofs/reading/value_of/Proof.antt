@@ -7,7 +7,7 @@ use lib.Pow.{pow-pos}
 use borrow.Author.Needs.{needs}
 use Rattle.rules.specs.Bits.{number}
 use Rattle.words.specs.Bits.{one-shl}
-use Rattle.runs.specs.Values.{first-bytes}
+use Rattle.runs.specs.Parts.{first-bytes}
 use Rattle.runs.proofs.reading.value_of.Statement.{statement}
 use Rattle.runs.proofs.reading.value_of.Tie as tie
 

@@ -1,14 +1,17 @@
--- The value of a repeated run, read with the bytes behind it and cut to its own.
-use mathlib.Core.Path.{_≡_}
+-- The part of a page from a place on: its length, and the number that its first bytes make.
+use mathlib.Core.Path.{_≡_, sym, ap, _∙_}
 use mathlib.Core.List.{List}
-use Prim.Native.Nat.{ℕ, _+_, _*_, _%_, _^_, _≤_, _<_}
+use Prim.Native.Nat.{ℕ, _+_, _-_, _*_, _%_, _^_, _≤_, _<_}
 use native.Mathlib.Nat.{add-comm}
-use lib.ListN.{length, take, drop}
+use lib.ListN.{length, take, drop, length-drop}
 use lib.Seq.{take-add, length-take-le}
 use lib.Pow.{low}
 use Rattle.rules.specs.Bits.{number}
 use Rattle.words.specs.Bytes.{number-append, pow-256}
 use Rattle.words.specs.Joined.{Small, small-take, joined-lt}
+
+pub part-size : (page : List ℕ) (at : ℕ) {part : List ℕ} → drop at page ≡ part → length page - at ≡ length part
+part-size page at e = sym (length-drop at page) ∙ ap length e
 
 -- of k + m bytes that were read together, the first k
 pub first-bytes : (l : List ℕ) (k m : ℕ) → Small 8 l → k ≤ length l → number (take (k + m) l) % 2 ^ (8 * k) ≡ number (take k l)
