@@ -10,3 +10,4 @@ pub mod Examples
 pub mod Bare
 pub mod VerticalFaults
 pub mod Vertical
+pub mod Streams
