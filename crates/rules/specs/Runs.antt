@@ -123,3 +123,16 @@ oneAt w n covered page at =
     (cond (ltb 16384 n) (Refused 2)
     (cond (ltb (length page) at) (Refused 5)
     (cond (leb n covered) (Refused 11) (runAt w (n - covered) page at))))
+
+-- what is handed back of it: the packed bytes, as a part of the page, and beside it code, kind, length in entries, repeated value, next place
+pub data Handed : Type 0 where
+  handed : List ℕ → List ℕ → Handed
+
+-- an empty part and kind 0 for a repeated run, and for a refused one, whose length, value and next place are 0; kind 1 for a packed run, 8 entries a group, also past n
+abbrev pub handedBack : List ℕ → Run → Handed
+handedBack page (Refused code) = handed [] (code ∷ 0 ∷ 0 ∷ 0 ∷ 0 ∷ [])
+handedBack page (Repeated count value next) = handed [] (0 ∷ 0 ∷ count ∷ value ∷ next ∷ [])
+handedBack page (Packed groups start next) = handed (take (next - start) (drop start page)) (0 ∷ 1 ∷ (8 * groups) ∷ 0 ∷ next ∷ [])
+
+unfoldable pub oneRun : ℕ → ℕ → ℕ → List ℕ → ℕ → Handed
+oneRun w n covered page at = handedBack page (oneAt w n covered page at)

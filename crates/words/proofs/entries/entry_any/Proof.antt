@@ -1,3 +1,4 @@
+-- `words::entries::entry_any` meets its contract: a window of eight bytes holds the bits, which begin in its first byte.
 use Prim.Native.Nat.{ℕ, _*_, _/_, _%_, _^_, _<_}
 use mathlib.Core.Path.{_≡_, sym, ap, _∙_}
 use native.Mathlib.Nat.{lt-of-lt-of-le}

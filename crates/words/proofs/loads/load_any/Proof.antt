@@ -1,3 +1,4 @@
+-- `words::loads::load_any` meets its contract: nothing past the end, a shorter tail, or eight bytes.
 use Prim.Native.Nat.{ℕ, _-_}
 use mathlib.Core.Path.{_≡_, refl, sym, ap, _∙_}
 use lib.ListN.{length, take, drop, length-drop}

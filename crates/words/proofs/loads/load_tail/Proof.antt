@@ -1,3 +1,4 @@
+-- `words::loads::load_tail` meets its contract: from the last byte down, each turn puts one byte below those read.
 use Prim.Native.Nat.{ℕ, _+_, _-_, _*_, _^_, _≤_, _<_}
 use mathlib.Core.Path.{_≡_, sym, ap, _∙_}
 use lib.ListN.{length, drop, getD}
