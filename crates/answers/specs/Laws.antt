@@ -7,7 +7,7 @@ use mathlib.Core.Bool.{Bool, true, false}
 use lib.Dec.{ltb}
 use borrow.Author.Tests.{ltb-false}
 use Rattle.rules.specs.Bits.{put}
-use Rattle.rules.specs.Answer.{faulty, _then_, limitFault, roomFault, Outcome, accepted, refusal, answered}
+use Rattle.rules.specs.Answer.{faulty, _then_, countFault, limitFault, roomFault, Outcome, accepted, refusal, answered}
 use Rattle.rules.specs.Answer.Outcome.{outcome}
 use Rattle.rules.specs.declared.Answer.{Answer}
 
@@ -25,6 +25,12 @@ unfolding _then_
 then-none zero b e = refl
 then-none (suc a) b e = absurd (omega arith)
 
+-- none is found behind it
+pub then-last : (a b : ℕ) → b ≡ 0 → (a then b) ≡ a
+unfolding _then_
+then-last zero b e = e
+then-last (suc a) b e = refl
+
 -- what is known where no fault was found
 pub not-faulty : (t : Bool) (code : ℕ) → (code ≡ 0 → ⊥) → faulty t code ≡ 0 → t ≡ false
 not-faulty true code some e = absurd (some e)
@@ -35,11 +41,14 @@ unfolding _then_
 then-zero zero b e = (refl, e)
 then-zero (suc a) b e = absurd (omega arith)
 
+pub within-count : (n : ℕ) → countFault n ≡ 0 → n ≤ 16384
+within-count n e = ltb-false 16384 n (not-faulty _ 2 (λ h. omega arith) e)
+
 pub within-limits : (w n : ℕ) → limitFault w n ≡ 0 → (w ≤ 32) × (n ≤ 16384)
 unfolding limitFault
 within-limits w n e =
-    let z = then-zero (faulty (ltb 32 w) 1) (faulty (ltb 16384 n) 2) e in
-    (ltb-false 32 w (not-faulty _ 1 (λ h. omega arith) (z .0)), ltb-false 16384 n (not-faulty _ 2 (λ h. omega arith) (z .1)))
+    let z = then-zero (faulty (ltb 32 w) 1) (countFault n) e in
+    (ltb-false 32 w (not-faulty _ 1 (λ h. omega arith) (z .0)), within-count n (z .1))
 
 pub has-room : (places need : ℕ) → roomFault places need ≡ 0 → need ≤ places
 unfolding roomFault

@@ -3,19 +3,19 @@ use mathlib.Core.Path.{_≡_, refl, sym, ap, _∙_}
 use mathlib.Core.Bool.{Bool}
 use mathlib.Core.List.{List, [], _∷_, _++_}
 use Prim.Native.Nat.{ℕ, zero, suc, _+_, _-_, _*_, _/_, _%_, _^_, _≤_, _<_}
-use native.Mathlib.Nat.{lt-of-lt-of-le, mod-eq-of-lt, add-comm}
+use native.Mathlib.Nat.{mod-eq-of-lt, add-comm, zero-add}
 use native.Mathlib.Omega.{arith}
 use lib.Seq.{take-at}
 use lib.ListN.{length, take, set, length-append}
-use lib.Pow.{pow-mono, low, high}
+use lib.Pow.{low, high}
 use lib.Count.{ones}
 use Rattle.rules.specs.Bits.{ceil, bit, flag, word, joined, number, bytes, put, bitOf, bitAt}
 use Rattle.rules.specs.Bits.Order.{lowFirst}
 use Rattle.rules.specs.Bitmap.{bitmap, tally}
-use Rattle.words.specs.Bits.{word-lt, word-add, word-ext, bit-word, ext, bit-of-zero}
-use Rattle.words.specs.Bytes.{length-bytes, number-bytes, bytes-add, bytes-mod, pow-256}
+use Rattle.words.specs.Bits.{word-lt, word-fits, word-add, word-ext, bit-word, ext, bit-of-zero}
+use Rattle.words.specs.Bytes.{length-bytes, number-whole, bytes-add, bytes-mod, pow-256}
 use Rattle.words.specs.Joined.{small-bytes, bit-joined}
-use Rattle.words.specs.Puts.{put-put, set-put, length-put}
+use Rattle.words.specs.Puts.{put-none, put-put, set-put, length-put}
 use Rattle.words.specs.Appended.{appended, appended-bits}
 use Rattle.bitmaps.specs.Counts.{countOnes, ones-number, ones-word}
 
@@ -31,9 +31,7 @@ bitmap-ext n h = ap (bytes (ceil n 8)) (word-ext n h)
 -- a bitmap's number is the word of the test
 pub number-bitmap : (n : ℕ) (f : ℕ → Bool) → number (bitmap n f) ≡ word n f
 unfolding bitmap
-number-bitmap n f =
-    number-bytes (ceil n 8) (word n f) ∙ ap (λ (m : ℕ). word n f % m) (pow-256 (ceil n 8))
-    ∙ mod-eq-of-lt (lt-of-lt-of-le (word-lt n f) (pow-mono (omega arith)))
+number-bitmap n f = number-whole (ceil n 8) n (word n f) (word-lt n f) (omega arith)
 
 -- its bits are those of that word
 pub bit-number : (n : ℕ) (f : ℕ → Bool) (k : ℕ) → bitAt lowFirst 8 (bitmap n f) k ≡ bit (word n f) k
@@ -68,21 +66,36 @@ bitmap-add a m f =
     let size : ceil (8 * a) 8 ≡ a = omega arith in
     rw (sizes, size, bytes-add, ← (bytes-mod a (word (8 * a + m) f)), below, above)
 
--- the bitmap of a whole bytes in place, and then that of m entries more
-pub put-bitmap : (l : List ℕ) (a m : ℕ) (f : ℕ → Bool) → a + ceil m 8 ≤ length l
-    → put (put l 0 (bitmap (8 * a) f)) a (bitmap m (λ k. f (8 * a + k))) ≡ put l 0 (bitmap (8 * a + m) f)
-put-bitmap l a m f h =
+-- no entry: nothing is put
+pub bitmap-none : (l : List ℕ) (g : ℕ) (f : ℕ → Bool) → l ≡ put l g (bitmap 0 f)
+unfolding bitmap bytes
+bitmap-none l g f = put-none l g
+
+-- the bitmap of a whole bytes in place from byte g on, and then that of m entries more
+pub put-bitmap-on : (l : List ℕ) (g a m : ℕ) (f : ℕ → Bool) → g + a + ceil m 8 ≤ length l
+    → put (put l g (bitmap (8 * a) f)) (g + a) (bitmap m (λ k. f (8 * a + k))) ≡ put l g (bitmap (8 * a + m) f)
+put-bitmap-on l g a m f h =
     let u : List ℕ = bitmap (8 * a) f in
     let v : List ℕ = bitmap m (λ k. f (8 * a + k)) in
-    let size : a ≡ 0 + length u = omega (arith, length-bitmap (8 * a) f) in
-    ap (λ (k : ℕ). put (put l 0 u) k v) size ∙ put-put l u v 0 (omega (arith, length-bitmap m (λ k. f (8 * a + k)), length-bitmap (8 * a) f))
-    ∙ ap (put l 0) (sym (bitmap-add a m f))
+    let size : g + a ≡ g + length u = omega (arith, length-bitmap (8 * a) f) in
+    ap (λ (k : ℕ). put (put l g u) k v) size ∙ put-put l u v g (omega (arith, length-bitmap m (λ k. f (8 * a + k)), length-bitmap (8 * a) f))
+    ∙ ap (put l g) (sym (bitmap-add a m f))
+
+pub put-bitmap : (l : List ℕ) (a m : ℕ) (f : ℕ → Bool) → a + ceil m 8 ≤ length l
+    → put (put l 0 (bitmap (8 * a) f)) a (bitmap m (λ k. f (8 * a + k))) ≡ put l 0 (bitmap (8 * a + m) f)
+put-bitmap l a m f h = rw (zero-add a) at (put-bitmap-on l 0 a m f (omega arith))
+
+-- one to eight entries are a byte
+pub bitmap-byte : (n : ℕ) (f : ℕ → Bool) → 0 < n → n ≤ 8 → bitmap n f ≡ word n f ∷ []
+unfolding bitmap bytes
+bitmap-byte n f some few =
+    let one : ceil n 8 ≡ 1 = omega arith in
+    ap (λ (k : ℕ). bytes k (word n f)) one ∙ ap (λ (x : ℕ). x ∷ []) (mod-eq-of-lt (word-fits n 8 f few))
+
+pub byte-bitmap : (f : ℕ → Bool) → bitmap 8 f ≡ word 8 f ∷ []
+byte-bitmap f = bitmap-byte 8 f (omega arith) (omega arith)
 
 -- a byte more: eight entries
-pub byte-bitmap : (f : ℕ → Bool) → bitmap 8 f ≡ word 8 f ∷ []
-unfolding bitmap bytes
-byte-bitmap f = ap (λ (x : ℕ). x ∷ []) (mod-eq-of-lt (word-lt 8 f))
-
 pub next-byte : (l : List ℕ) (g x : ℕ) (f : ℕ → Bool) → g < length l → x ≡ word 8 (λ k. f (8 * g + k))
     → set (put l 0 (bitmap (8 * g) f)) g x ≡ put l 0 (bitmap (8 * (g + 1)) f)
 next-byte l g x f h e =

@@ -1,12 +1,13 @@
 -- How many of the numbers below 2^32 are below a whole number, and how many at most it.
-use mathlib.Core.Path.{_≡_, refl, sym, _∙_}
-use mathlib.Core.Bool.{Bool, true, false, true≢false}
+use mathlib.Core.Path.{_≡_, refl, sym}
+use mathlib.Core.Bool.{true, false, true≢false}
 use Prim.Native.Nat.{ℕ, _+_, _≤_, _<_, min}
 use native.Mathlib.Omega.{arith}
-use lib.Dec.{T, leb, ltb}
+use lib.Dec.{T, ltb}
 use lib.IntN.{ℤ, pos, negsuc, natAbs}
 use lib.Signed.{ltZ, leZ, nonNeg}
-use borrow.Author.Tests.{lt-ltb, le-ltb, ltb-true, ltb-false, leb-true, leb-false}
+use borrow.Author.Tests.{le-ltb, ltb-true, ltb-false}
+use Rattle.signed.specs.Order.{same-ltb, same-leb}
 use Rattle.compare.specs.Range.{cutOf, nextOf}
 
 pub cut-le : (z : ℤ) → cutOf z ≤ 4294967296
@@ -21,20 +22,12 @@ next-le (negsuc n) = omega arith
 
 -- an entry is below z just where it is one of those that are
 pub below-cut : (x : ℕ) (z : ℤ) → x < 4294967296 → ltZ (pos x) z ≡ ltb x (cutOf z)
-below-cut x (pos n) h = go (ltb x n) refl
-  where
-    go : (t : Bool) → ltb x n ≡ t → ltb x n ≡ ltb x (cutOf (pos n))
-    go true e = e ∙ sym (lt-ltb x (cutOf (pos n)) (omega (arith, ltb-true x n e)))
-    go false e = e ∙ sym (le-ltb x (cutOf (pos n)) (omega (arith, ltb-false x n e)))
+below-cut x (pos n) h = sym (same-ltb x n x (cutOf (pos n)) (λ l. omega arith) (λ l. omega arith))
 below-cut x (negsuc n) h = sym (le-ltb x 0 (omega arith))
 
 -- and at most z just where it is one of those
 pub below-next : (x : ℕ) (z : ℤ) → x < 4294967296 → leZ (pos x) z ≡ ltb x (nextOf z)
-below-next x (pos n) h = go (leb x n) refl
-  where
-    go : (t : Bool) → leb x n ≡ t → leb x n ≡ ltb x (nextOf (pos n))
-    go true e = e ∙ sym (lt-ltb x (nextOf (pos n)) (omega (arith, leb-true x n e)))
-    go false e = e ∙ sym (le-ltb x (nextOf (pos n)) (omega (arith, leb-false x n e)))
+below-next x (pos n) h = sym (same-leb x n x (nextOf (pos n)) (λ l. omega arith) (λ l. omega arith))
 below-next x (negsuc n) h = sym (le-ltb x 0 (omega arith))
 
 -- ---- the number, by the tests of it

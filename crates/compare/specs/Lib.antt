@@ -1,9 +1,11 @@
 pub mod Band
 pub mod Range
-pub mod Tests
+pub mod SignedRange
 pub mod Operators
 pub mod Inside
 pub mod Cuts
 pub mod Ranges
+pub mod SignedCuts
+pub mod SignedRanges
 pub mod Meanings
 pub mod Faults

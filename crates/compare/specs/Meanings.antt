@@ -7,20 +7,9 @@ use native.Mathlib.Omega.{arith}
 use lib.IntN.{ℤ, pos, negsuc}
 use lib.Seq.{getD-take}
 use lib.Signed.{ltZ, leZ}
-use borrow.Author.Tests.{le-leb, lt-leb, ltb-true, leb-true}
+use borrow.Author.Tests.{lt-leb, ltb-true, leb-true}
 use Rattle.rules.specs.Comparison.{between, operators, holds}
-use Rattle.compare.specs.Tests.{not-ltZ, not-leZ}
-
-leZ-refl : (a : ℤ) → leZ a a ≡ true
-leZ-refl (pos n) = le-leb n n (omega arith)
-leZ-refl (negsuc n) = le-leb n n (omega arith)
-
--- at most and at least is equal
-leZ-antisym : (a x : ℤ) → leZ a x ≡ true → leZ x a ≡ true → x ≡ a
-leZ-antisym (pos m) (pos n) e f = ap pos (omega (arith, leb-true m n e, leb-true n m f))
-leZ-antisym (pos m) (negsuc n) e f = absurd (true≢false (sym e))
-leZ-antisym (negsuc m) (pos n) e f = absurd (true≢false (sym f))
-leZ-antisym (negsuc m) (negsuc n) e f = ap negsuc (omega (arith, leb-true n m e, leb-true m n f))
+use Rattle.signed.specs.Order.{not-ltZ, not-leZ, leZ-refl, leZ-antisym}
 
 -- where b is below a, nothing is at least a and at most b
 leZ-empty : (a b x : ℤ) → ltZ b a ≡ true → leZ a x ≡ true → leZ x b ≡ false

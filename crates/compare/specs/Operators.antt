@@ -5,13 +5,14 @@ use mathlib.Core.List.{List, [], _∷_, map}
 use Prim.Native.Nat.{ℕ, zero, suc, _≤_, _<_, zero-le, suc-le-suc}
 use native.Mathlib.Omega.{arith}
 use lib.Dec.{ltb}
-use lib.IntN.{ℤ}
+use lib.IntN.{ℤ, pos, negsuc}
 use lib.ListN.{length, getD}
 use lib.Signed.{leZ}
-use borrow.Author.Tests.{lt-ltb, le-ltb, ltb-true}
+use borrow.Author.Tests.{lt-ltb, le-ltb, le-leb, ltb-true}
 use Rattle.rules.specs.Comparison.{between, operators, holds}
+use Rattle.rules.specs.Signed.{Within}
+use Rattle.signed.specs.Order.{not-leZ}
 use Rattle.compare.specs.Band.{banded, least, greatest, bands, bandOf}
-use Rattle.compare.specs.Tests.{not-leZ}
 use Rattle.compare.specs.declared.bands.Band.{Band}
 use Rattle.compare.specs.declared.bands.Comparison.{Comparison}
 use Rattle.compare.specs.declared.bands.Comparison.the-variants.{Of, Unknown}
@@ -62,14 +63,21 @@ pub known-band : (op : ℕ) (a b : ℤ) → op < 8 → Known op a b
 known-band op a b h =
     known (bandOf op a b) (λ e. absurd (omega (arith, ltb-true 7 op (unknown-band op a b e)))) op a b refl
 
--- the operators' tests are their bands', for every x of 64 bits
-module _ (a b x : ℤ) (low : leZ least x ≡ true) (high : leZ x greatest ≡ true) where
-  operators-banded : map (λ band. banded band x) (bands a b) ≡ operators a b x
-  unfolding operators bands banded between
-  operators-banded = rw (low, high, and-true (leZ a x), not-leZ x a, not-leZ a x)
+-- the constants' 64 bits hold every x of 64 bits
+least-le : (x : ℤ) → Within 64 x → leZ least x ≡ true
+least-le (pos n) h = refl
+least-le (negsuc n) h = le-leb n 9223372036854775807 (omega arith)
 
-pub holds-band : (op : ℕ) (a b x : ℤ) (band : Band) → leZ least x ≡ true → leZ x greatest ≡ true → bandOf op a b ≡ Of band
-    → banded band x ≡ holds op a b x
+le-greatest : (x : ℤ) → Within 64 x → leZ x greatest ≡ true
+le-greatest (pos n) h = le-leb n 9223372036854775807 (omega arith)
+le-greatest (negsuc n) h = refl
+
+-- and the operators' tests of it are their bands'
+operators-banded : (a b x : ℤ) → Within 64 x → map (λ band. banded band x) (bands a b) ≡ operators a b x
+unfolding operators bands banded between
+operators-banded a b x h = rw (least-le x h, le-greatest x h, and-true (leZ a x), not-leZ x a, not-leZ a x)
+
+pub holds-band : (op : ℕ) (a b x : ℤ) (band : Band) → Within 64 x → bandOf op a b ≡ Of band → banded band x ≡ holds op a b x
 unfolding bandOf holds
-holds-band op a b x band low high e =
-    sym (same-row (λ band. banded band x) (bands a b) op band e) ∙ ap (λ (rows : List Bool). getD rows op false) (operators-banded a b x low high)
+holds-band op a b x band h e =
+    sym (same-row (λ band. banded band x) (bands a b) op band e) ∙ ap (λ (rows : List Bool). getD rows op false) (operators-banded a b x h)

@@ -5,11 +5,12 @@ use Prim.Native.Nat.{ℕ, _+_, _-_, _%_, _≤_, _<_}
 use native.Mathlib.Omega.{arith}
 use lib.Dec.{ltb}
 use lib.IntN.{ℤ, pos}
-use borrow.Author.Tests.{lt-ltb, le-ltb, le-leb, ltb-true, ltb-false}
+use lib.Signed.{ltZ, leZ}
+use borrow.Author.Tests.{lt-ltb, le-ltb, ltb-true, ltb-false}
 use Rattle.rules.specs.Comparison.{between, holds}
+use Rattle.signed.specs.Order.{not-ltZ}
 use Rattle.compare.specs.Band.{turned, banded, bandOf}
 use Rattle.compare.specs.Range.{inside, ranged, cutOf, nextOf, flipOf, rangeTo, rangeOf}
-use Rattle.compare.specs.Tests.{not-ltZ}
 use Rattle.compare.specs.Cuts.{next-le, below-cut, below-next}
 use Rattle.compare.specs.Inside.{inside-true, Place, place}
 use Rattle.compare.specs.Inside.Place.{low, high, within}
@@ -34,13 +35,13 @@ turned-all false = refl
 -- ---- the entries from `from` on and below `to`
 
 -- a range lies below 2^32 and its flip is 0 or 255
-record Whole (r : Range) : Type 0 where
+pub record Whole (r : Range) : Type 0 where
   pub fits : r .low + r .span < 4294967296
   pub flips : r .flip % 255 ≡ 0
   pub small : r .flip < 256
 
 module _ (from to : ℕ) (outside : Bool) where
-  to-whole : to ≤ 4294967296 → Whole (rangeTo from to outside)
+  pub to-whole : to ≤ 4294967296 → Whole (rangeTo from to outside)
   unfolding rangeTo
   to-whole h = go (ltb from to) refl
     where
@@ -68,7 +69,7 @@ module _ (from to : ℕ) (outside : Bool) where
         go true e = rw e
         go false e = rw (e, le-ltb x to (omega (arith, ltb-false x from e)))
 
-    ranged-to : ranged (rangeTo from to outside) x ≡ turned outside (not (ltb x from) && ltb x to)
+    pub ranged-to : ranged (rangeTo from to outside) x ≡ turned outside (not (ltb x from) && ltb x to)
     unfolding ranged rangeTo
     ranged-to = go (ltb from to) refl
       where
@@ -77,6 +78,14 @@ module _ (from to : ℕ) (outside : Bool) where
         go false e =
             rw (e, flip-turns (not outside), inside-true 0 4294967295 x (omega arith) (omega arith), none-inside (ltb-false from to e))
             (turned-all outside)
+
+-- where the ends are the band's for z, kept as x
+pub ranged-ends : (band : Band) (from to x : ℕ) (z : ℤ) → x < 4294967296 → ltZ z (band .low) ≡ ltb x from → leZ z (band .high) ≡ ltb x to
+    → ranged (rangeTo from to (band .outside)) x ≡ banded band z
+unfolding banded between
+ranged-ends band from to x z h below most =
+    ranged-to from to (band .outside) x h
+    ∙ ap (turned (band .outside)) (sym (ap₂ _&&_ (not-ltZ (band .low) z ∙ ap not below) most))
 
 -- ---- the range of a band
 
@@ -94,13 +103,11 @@ pub flip-small : (band : Band) → rangeOf band .flip < 256
 flip-small band = range-whole band .small
 
 pub ranged-band : (band : Band) (x : ℕ) → x < 4294967296 → ranged (rangeOf band) x ≡ banded band (pos x)
-unfolding rangeOf banded between
+unfolding rangeOf
 ranged-band band x h =
-    ranged-to (cutOf (band .low)) (nextOf (band .high)) (band .outside) x h
-    ∙ ap (turned (band .outside))
-    (sym (ap₂ _&&_ (not-ltZ (band .low) (pos x) ∙ ap not (below-cut x (band .low) h)) (below-next x (band .high) h)))
+    ranged-ends band (cutOf (band .low)) (nextOf (band .high)) x (pos x) h (below-cut x (band .low) h) (below-next x (band .high) h)
 
 pub ranged-holds : (op : ℕ) (a b : ℤ) (band : Band) (x : ℕ) → x < 4294967296 → bandOf op a b ≡ Of band
     → ranged (rangeOf band) x ≡ holds op a b (pos x)
 ranged-holds op a b band x h e =
-    ranged-band band x h ∙ holds-band op a b (pos x) band refl (le-leb x 9223372036854775807 (omega arith)) e
+    ranged-band band x h ∙ holds-band op a b (pos x) band (omega arith) e

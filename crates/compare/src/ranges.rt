@@ -1,7 +1,7 @@
 // The entries of an unsigned column that a band selects.
 ghost use mathlib.Core.Path.{_≡_};
-ghost use Prim.Native.Nat.{_+_, _<_};
-ghost use Rattle.compare.specs.Range.{cutOf, nextOf, flipOf, rangeOf, ranged};
+ghost use Prim.Native.Nat.{_+_, _≤_, _<_, min};
+ghost use Rattle.compare.specs.Range.{cutOf, nextOf, flipOf, rangeTo, rangeOf, ranged};
 use crate::bands::Band;
 use std::num::wrapping_sub_u32;
 
@@ -25,6 +25,16 @@ fn cut(z: i64) -> u64
     4294967296
 }
 
+// One more of the numbers below 2^32, where there is one.
+pub fn one_more(below: u64) -> u64
+    ensures { λ r. ⌜ r ≡ min (below + 1) 4294967296 ⌝ }
+{
+    if below < 4294967296 {
+        return below + 1;
+    }
+    4294967296
+}
+
 // How many of the numbers below 2^32 are at most z.
 fn next(z: i64) -> u64
     ensures { λ r. ⌜ r ≡ nextOf z ⌝ }
@@ -32,11 +42,7 @@ fn next(z: i64) -> u64
     if z < 0 {
         return 0;
     }
-    let below = cut(z);
-    if below < 4294967296 {
-        return below + 1;
-    }
-    below
+    one_more(cut(z))
 }
 
 fn flip_of(outside: bool) -> u8
@@ -45,24 +51,29 @@ fn flip_of(outside: bool) -> u8
     if outside { 255 } else { 0 }
 }
 
-// Where the band holds no entry, the range is the whole column with the flip turned.
-pub fn range_of(band: Band) -> Range
-    ensures { λ r. ⌜ r ≡ rangeOf band ⌝ }
+// The entries from `from` on and below `to`; where there are none, the whole column with the flip turned.
+pub fn range_to(from: u64, to: u64, outside: bool) -> Range
+    requires { ⌜ to ≤ 4294967296 ⌝ }
+    ensures { λ r. ⌜ r ≡ rangeTo from to outside ⌝ }
 {
-    let from = cut(band.low);
-    let to = next(band.high);
     if from < to {
         return Range {
             low: from as u32,
             span: (to - from - 1) as u32,
-            flip: flip_of(band.outside),
+            flip: flip_of(outside),
         };
     }
     Range {
         low: 0,
         span: 4294967295,
-        flip: flip_of(!band.outside),
+        flip: flip_of(!outside),
     }
+}
+
+pub fn range_of(band: Band) -> Range
+    ensures { λ r. ⌜ r ≡ rangeOf band ⌝ }
+{
+    range_to(cut(band.low), next(band.high), band.outside)
 }
 
 // Does the range select an entry.

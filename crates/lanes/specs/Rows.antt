@@ -6,8 +6,8 @@ use native.Mathlib.Omega.{arith}
 use lib.ListN.{length, take, drop, getD, set, length-append, List·getD-append}
 use lib.Seq.{getD-append-add, getD-drop, length-take-le}
 use Rattle.rules.specs.Bits.{tabulate, put}
-use Rattle.words.specs.Puts.{put-snoc, put-longer}
-use Rattle.words.specs.Tabulated.{length-tabulate, tabulate-ext, tabulate-snoc, put-tabulate-add}
+use Rattle.words.specs.Puts.{put-longer}
+use Rattle.words.specs.Tabulated.{length-tabulate, tabulate-ext, put-tabulate-add, put-tabulate-at}
 
 -- ---- places that are put, and those behind them
 
@@ -32,11 +32,6 @@ getD-put-front l vs k h = List·getD-append vs (drop (0 + length vs) l) 0 k h
 pub put-again : (l a b : List ℕ) → length a ≡ length b → put (put l 0 a) 0 b ≡ put l 0 b
 unfolding put
 put-again l a b e = put-longer l a b 0 (omega arith)
-
--- n places from `at` on are filled, and one more is stored
-pub put-tabulate-at : (l : List ℕ) (at n : ℕ) (f : ℕ → ℕ) → at + n < length l → set (put l at (tabulate n f)) (at + n) (f n) ≡ put l at (tabulate (n + 1) f)
-put-tabulate-at l at n f h =
-    put-snoc l (tabulate n f) at (at + n) (f n) (omega (arith, length-tabulate n f)) h ∙ ap (put l at) (sym (tabulate-snoc n f))
 
 -- ---- one byte more
 

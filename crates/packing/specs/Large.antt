@@ -6,14 +6,14 @@ use Prim.Native.Nat.{ℕ, zero, suc, _+_, _^_, _<_}
 use native.Mathlib.Numerals.{add-one}
 use native.Mathlib.Omega.{arith}
 use lib.Dec.{leb}
-use lib.ListN.{length, take, getD}
+use lib.ListN.{length, take, drop, getD}
 use lib.Seq.{take-suc}
 use lib.Pow.{pow-pos}
 use lib.Bits.{bitOr, or-lt, or-add-and, and-le-l, and-le-r}
 use borrow.Author.Tests.{leb-true, leb-false, le-leb, lt-leb}
 use Rattle.rules.specs.Answer.{anyLarge, largeFault}
 use Rattle.answers.specs.Laws.{not-faulty}
-use Rattle.words.specs.Joined.{Small}
+use Rattle.words.specs.Joined.{Small, small-take, small-drop}
 
 neither : (a b : Bool) → a || b ≡ false → (a ≡ false) × (b ≡ false)
 neither true b e = absurd (true≢false e)
@@ -30,6 +30,10 @@ pub large-of : (w : ℕ) (xs : List ℕ) → Small w xs → anyLarge w xs ≡ fa
 unfolding anyLarge
 large-of w [] h = refl
 large-of w (x ∷ xs) h = ap₂ _||_ (lt-leb (2 ^ w) x (h zero)) (large-of w xs (λ k. h (suc k)))
+
+-- nor in a part of the list
+pub large-part : (w m p : ℕ) (xs : List ℕ) → anyLarge w xs ≡ false → anyLarge w (take m (drop p xs)) ≡ false
+large-part w m p xs e = large-of w (take m (drop p xs)) (small-take w m (drop p xs) (small-drop w p xs (small-of w xs e)))
 
 -- ---- the bits of all entries together
 

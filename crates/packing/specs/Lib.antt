@@ -1,4 +1,5 @@
 pub mod Large
 pub mod Digits
 pub mod Packed
+pub mod Filled
 pub mod RoundTrip

@@ -1,24 +1,24 @@
 -- Packed entries unpacked are the entries, and a page's entries packed are the page, at every width, also 0.
 use mathlib.Core.Path.{_≡_, sym, ap, _∙_}
 use mathlib.Core.Bool.{false}
-use mathlib.Core.List.{List}
+use mathlib.Core.List.{List, _++_}
 use Prim.Native.Nat.{ℕ, _+_, _-_, _*_, _/_, _%_, _^_, _<_}
-use native.Mathlib.Nat.{lt-of-lt-of-le, mod-eq-of-lt, div-eq-of-lt, div-lt-iff-lt-mul, one-mul, zero-mod}
+use native.Mathlib.Nat.{mod-eq-of-lt, div-eq-of-lt, div-lt-iff-lt-mul, one-mul, zero-mod, zero-add}
 use native.Mathlib.Omega.{arith}
-use lib.ListN.{length}
-use lib.Seq.{ext-getD}
-use lib.Pow.{pow-pos, pow-mono, shr-lt}
+use lib.ListN.{length, take, getD}
+use lib.Seq.{ext-getD, take-at}
+use lib.Pow.{pow-pos, shr-lt}
 use Rattle.rules.specs.Bits.{tabulate, joined, number, field, entry, entryByte}
 use Rattle.rules.specs.Bits.Order.{lowFirst}
 use Rattle.rules.specs.Answer.{anyLarge}
 use Rattle.rules.specs.Horizontal.{packed, pageBytes, unused}
-use Rattle.words.specs.Bytes.{number-bytes, pow-256}
-use Rattle.words.specs.Entries.{field-number}
+use Rattle.words.specs.Bytes.{number-whole}
+use Rattle.words.specs.Entries.{field-number, field-window, place-within}
 use Rattle.words.specs.Joined.{Small, joined-lt, piece-lt}
 use Rattle.words.specs.Tabulated.{length-tabulate, getD-tabulate, tabulate-ext, small-tabulate}
 use Rattle.packing.specs.Large.{small-of, large-of}
 use Rattle.packing.specs.Digits.{digit, joined-below, joined-digit, joined-digits, bytes-number}
-use Rattle.packing.specs.Packed.{packed-joined}
+use Rattle.packing.specs.Packed.{length-packed, packed-joined}
 
 -- ---- what a page holds
 
@@ -48,9 +48,7 @@ small-packed w xs = small-tabulate 8 (pageBytes w (length xs)) (entryByte lowFir
 -- its number is that of the entries joined
 number-packed : (w : ℕ) (xs : List ℕ) → Small w xs → number (packed lowFirst w xs) ≡ joined w xs
 number-packed w xs h =
-    let n : ℕ = pageBytes w (length xs) in
-    let below : joined w xs < 256 ^ n = rw pow-256 (lt-of-lt-of-le (joined-below w xs h) (pow-mono {i = length xs * w} {j = 8 * n} (omega arith))) in
-    ap number (packed-joined w xs h) ∙ number-bytes n (joined w xs) ∙ mod-eq-of-lt below
+    ap number (packed-joined w xs h) ∙ number-whole (pageBytes w (length xs)) (length xs * w) (joined w xs) (joined-below w xs h) (omega arith)
 
 field-packed : (w : ℕ) (xs : List ℕ) (k m : ℕ) → Small w xs → field lowFirst (packed lowFirst w xs) k m ≡ joined w xs / 2 ^ k % 2 ^ m
 field-packed w xs k m h =
@@ -81,3 +79,13 @@ pack-unpacked w n page h size none =
     ap (joined w) (tabulate-ext n (entry lowFirst page w) (digit w (number page)) (λ i l. field-number page (i * w) w h))
     ∙ joined-digits w n (number page) ∙ mod-eq-of-lt (number-below w n page h size none) in
     packed-joined w xs (small-entries w n page) ∙ rw (long, whole, ← size) (bytes-number page h)
+
+-- an entry of a packed page, also with more behind the page
+pub entry-packed : (w : ℕ) (xs rest : List ℕ) (i : ℕ) → anyLarge w xs ≡ false → i < length xs → entry lowFirst (packed lowFirst w xs ++ rest) w i ≡ getD xs i 0
+entry-packed w xs rest i e l =
+    let page : List ℕ = packed lowFirst w xs in
+    let n : ℕ = pageBytes w (length xs) in
+    let front : take n (page ++ rest) ≡ page = take-at page rest n (length-packed lowFirst w xs) in
+    let inside : entry lowFirst page w i ≡ entry lowFirst (page ++ rest) w i =
+    rw (front, zero-add) at (field-window (page ++ rest) 0 n (i * w) w (omega (arith, place-within w i (length xs) l))) in
+    sym inside ∙ sym (getD-tabulate (length xs) (entry lowFirst page w) i 0 l) ∙ ap (λ (ys : List ℕ). getD ys i 0) (unpack-packed w xs e)

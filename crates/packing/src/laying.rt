@@ -1,8 +1,8 @@
 // Entries into a page.
 ghost use mathlib.Core.Path.{_≡_};
 ghost use mathlib.Core.Bool.{false};
-ghost use Prim.Native.Nat.{_≤_};
-ghost use lib.ListN.{length};
+ghost use Prim.Native.Nat.{_+_, _≤_};
+ghost use lib.ListN.{length, take, drop};
 ghost use Rattle.rules.specs.Bits.{put};
 ghost use Rattle.rules.specs.Bits.Order.{lowFirst};
 ghost use Rattle.rules.specs.Answer.{anyLarge};
@@ -22,4 +22,13 @@ pub fn pack(entries: &[u32], w: u32, page: &mut [u8])
         append_at(page, i * w as usize, entries[i] as u64, w);
         i += 1;
     }
+}
+
+// The page that m entries from place p on make, from byte `from` of another on.
+pub fn pack_part(entries: &[u32], p: usize, m: usize, w: u32, page: &mut [u8], from: usize)
+    requires { ⌜ (w ≤ 32) × (m ≤ 16384) × (p + m ≤ length (now entries)) × (anyLarge w (take m (drop p (now entries))) ≡ false) × (from + pageBytes w m ≤ length (now page)) ⌝ }
+    ensures { λ _. ⌜ now (page .exit) ≡ put (now (page .entry)) from (packed lowFirst w (take m (drop p (now (entries .entry))))) ⌝ }
+{
+    let end = p + m;
+    pack(&entries[p..end], w, &mut page[from..]);
 }

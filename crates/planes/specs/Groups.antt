@@ -14,7 +14,7 @@ use Rattle.rules.specs.Bits.{word}
 use Rattle.rules.specs.Comparison.{between}
 use Rattle.rules.specs.Vertical.{lane}
 use Rattle.words.specs.Bits.{word-and, word-or, word-not, word-ext}
-use Rattle.compare.specs.Tests.{not-ltZ}
+use Rattle.signed.specs.Order.{not-ltZ}
 use Rattle.planes.specs.Ends.{same, endAt}
 
 -- with no planes to come, all the constant's bits count

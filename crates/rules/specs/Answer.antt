@@ -19,9 +19,13 @@ unfoldable pub _then_ : ℕ → ℕ → ℕ
 zero then next = next
 suc code then next = suc code
 
+-- 2: the limit of every column
+abbrev pub countFault : ℕ → ℕ
+countFault n = faulty (ltb 16384 n) 2
+
 -- 1, 2: the limits of columns of unsigned entries
 unfoldable pub limitFault : ℕ → ℕ → ℕ
-limitFault w n = faulty (ltb 32 w) 1 then faulty (ltb 16384 n) 2
+limitFault w n = faulty (ltb 32 w) 1 then countFault n
 
 -- 3
 unfoldable pub operatorFault : ℕ → ℕ

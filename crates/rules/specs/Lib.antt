@@ -7,3 +7,9 @@ pub mod Vertical
 pub mod Varint
 pub mod Runs
 pub mod Grammar
+pub mod Shortest
+pub mod RunWriter
+pub mod Signed
+pub mod Delta
+pub mod DeltaWriter
+pub mod Dictionary

@@ -14,6 +14,7 @@ use Rattle.rules.specs.declared.Number.{Number}
 use Rattle.rules.specs.declared.Number.the-variants.{Read, Ended, Beyond}
 use Rattle.rules.specs.declared.Run.{Run}
 use Rattle.rules.specs.declared.Run.the-variants.{Repeated, Packed, Refused}
+use Rattle.rules.specs.declared.RunAnswer.{RunAnswer}
 
 -- ---- one run, where `left` entries are not yet covered
 
@@ -136,3 +137,12 @@ handedBack page (Packed groups start next) = handed (take (next - start) (drop s
 
 unfoldable pub oneRun : ℕ → ℕ → ℕ → List ℕ → ℕ → Handed
 oneRun w n covered page at = handedBack page (oneAt w n covered page at)
+
+-- the same as numbers, for who gets no part of the page: where the packed bytes begin, and how many they are; both 0 for a repeated and a refused run
+abbrev pub answerOf : Run → RunAnswer
+answerOf (Refused code) = record { code = code; kind = 0; length = 0; value = 0; next = 0; «body_at» = 0; «body_len» = 0 }
+answerOf (Repeated count value next) = record { code = 0; kind = 0; length = count; value = value; next = next; «body_at» = 0; «body_len» = 0 }
+answerOf (Packed groups start next) = record { code = 0; kind = 1; length = 8 * groups; value = 0; next = next; «body_at» = start; «body_len» = next - start }
+
+unfoldable pub oneAnswer : ℕ → ℕ → ℕ → List ℕ → ℕ → RunAnswer
+oneAnswer w n covered page at = answerOf (oneAt w n covered page at)

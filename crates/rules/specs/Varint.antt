@@ -42,3 +42,9 @@ abbrev pub numberFault : Number → ℕ
 numberFault (Read v next) = 0
 numberFault Ended = 5
 numberFault Beyond = 9
+
+-- every field gives its number and the next place, and reading goes on, or a refusal, which is passed up
+unfoldable pub reading : {A : Type 0} → (ℕ → A) → Number → (ℕ → ℕ → A) → A
+reading refuse (Read v next) onward = onward v next
+reading refuse Ended onward = refuse 5
+reading refuse Beyond onward = refuse 9

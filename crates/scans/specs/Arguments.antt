@@ -1,8 +1,7 @@
--- The arguments of a scan of an unsigned column, judged in the written order.
+-- The arguments of a scan, judged in the written order.
 use mathlib.Core.Path.{_≡_, refl}
 use Prim.Native.Nat.{ℕ, zero, suc}
 use lib.IntN.{ℤ}
-use Rattle.rules.specs.Answer.{limitFault}
 use Rattle.compare.specs.Band.{bandOf}
 use Rattle.compare.specs.declared.bands.Comparison.{Comparison}
 use Rattle.compare.specs.declared.bands.Comparison.the-variants.{Of, Unknown}
@@ -15,8 +14,8 @@ judged zero (Of band) = Good band
 judged zero Unknown = Bad 3
 judged (suc code) comparison = Bad (suc code)
 
-unfoldable pub argumentsOf : ℕ → ℕ → ℕ → ℤ → ℤ → Arguments
-argumentsOf w n op a b = judged (limitFault w n) (bandOf op a b)
+unfoldable pub argumentsOf : ℕ → ℕ → ℤ → ℤ → Arguments
+argumentsOf limits op a b = judged limits (bandOf op a b)
 
 -- a code that was found is the judgement, whatever the comparison
 pub judged-found : (code : ℕ) (comparison : Comparison) → (code ≡ 0 → ⊥) → Bad code ≡ judged code comparison

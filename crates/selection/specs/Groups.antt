@@ -20,11 +20,6 @@ use Rattle.compare.specs.Band.{turned}
 use Rattle.compare.specs.Range.{inside, ranged}
 use Rattle.selection.specs.Selected.{selected, ranging}
 
--- a test cast to a number is its digit
-pub byte-flag : (t : Bool) → boolByte t ≡ flag t
-byte-flag true = refl
-byte-flag false = refl
-
 -- tests at the bits 0, w, 2 × w, .. are a word of tests at j × w
 pub group-flags : (test : ℕ → Bool) (w : ℕ)
     → flag (test 0) + flag (test w) * 2 + flag (test (2 * w)) * 4 + flag (test (3 * w)) * 8 + flag (test (4 * w)) * 16 + flag (test (5 * w)) * 32 + flag (test (6 * w)) * 64 + flag (test (7 * w)) * 128

@@ -2,13 +2,13 @@
 use mathlib.Core.Path.{_≡_, refl, sym, ap, ap₂, _∙_}
 use mathlib.Core.Bool.{Bool, true, false}
 use mathlib.Core.List.{List, [], _∷_, _++_}
-use Prim.Native.Nat.{ℕ, zero, suc, _+_, _-_, _*_, _/_, _%_, _≤_, _<_}
-use native.Mathlib.Nat.{add-mul, mul-assoc, zero-mul, mul-le-mul-right, div-add-mod', mod-lt}
+use Prim.Native.Nat.{ℕ, zero, suc, _+_, _-_, _*_, _/_, _%_, _≤_, _<_, min}
+use native.Mathlib.Nat.{add-mul, mul-assoc, zero-mul, mul-le-mul, mul-le-mul-right, div-add-mod', mod-lt}
 use native.Mathlib.Omega.{arith}
-use lib.Dec.{ltb}
+use lib.Dec.{ltb, leb}
 use lib.ListN.{length, take, drop, getD, replicate, List·getD-append, List·getD-eq-default}
 use lib.Seq.{getD-drop, getD-append-add}
-use borrow.Author.Tests.{ltb-true, ltb-false}
+use borrow.Author.Tests.{ltb-true, ltb-false, leb-true, leb-false}
 use Rattle.rules.specs.Bits.{ceil, put, field}
 use Rattle.rules.specs.Bits.Order.{lowFirst}
 use Rattle.rules.specs.Bitmap.{bitmap}
@@ -81,50 +81,49 @@ module _ (l page : List ℕ) (w : ℕ) (test : ℕ → Bool) where
       eb ∙ ap (trimmed n) written ∙ trimmed-bitmap l n q (λ i. test (field lowFirst page (i * w) w)) eq h
 
   -- no group's windows end within the page
-  pub none-front : (q : ℕ) → length page < 8
-      → ((0 * w ≤ length page) × (length page < 0 * w + w + 8) × (0 ≤ q)) × (l ≡ put l 0 (selected page (8 * 0) w test))
+  pub none-front : (q : ℕ) → length page ≤ 8
+      → ((0 * w ≤ length page) × (length page ≤ 0 * w + w + 8) × (0 ≤ q)) × (l ≡ put l 0 (selected page (8 * 0) w test))
   none-front q h = (omega (arith, zero-mul w), none-selected l page w test)
 
--- ---- sizes: n entries are q groups, the last of them not whole
+-- ---- sizes: n entries are q groups, the last of them not whole, and at most 8 bytes follow them
 
-module _ (n w q len : ℕ) (eq : q ≡ ceil n 8) (el : len ≡ ceil (n * w) 8) where
-  pub page-le : len ≤ q * w
-  page-le = omega (arith, mul-le-mul-right w few, mul-assoc 8 q w)
+module _ (n w q len : ℕ) (eq : q ≡ ceil n 8) (all : ceil (n * w) 8 ≤ len) (few : len ≤ ceil (n * w) 8 + 8) where
+  pub page-le : len ≤ q * w + 8
+  page-le = omega (arith, mul-le-mul-right w up, mul-assoc 8 q w)
     where
-      few : n ≤ 8 * q
-      few = omega arith
+      up : n ≤ 8 * q
+      up = omega arith
 
-  pub groups-le : 8 * (q * w) ≤ 8 * len + 7 * w
-  groups-le = omega (arith, mul-le-mul-right w few, mul-assoc 8 q w, add-mul n 7 w)
+  groups-le : 8 * (q * w) ≤ 8 * len + 7 * w
+  groups-le = omega (arith, mul-le-mul-right w down, mul-assoc 8 q w, add-mul n 7 w)
     where
-      few : 8 * q ≤ n + 7
-      few = omega arith
+      down : 8 * q ≤ n + 7
+      down = omega arith
 
-  pub page-small : n ≤ 16384 → len ≤ 2048 * w
-  page-small h = omega (arith, mul-le-mul-right w h)
+  pub page-small : n ≤ 16384 → w ≤ 32 → len ≤ 65544
+  page-small h k = omega (arith, mul-le-mul {n₁ = n} {m₁ = w} {n₂ = 16384} {m₂ = 32} h k)
 
   -- what the last groups need
-  pub tail-small : (m : ℕ) → w ≤ 32 → m ≤ q → len < m * w + w + 8 → (q - m) * w ≤ 72
+  pub tail-small : (m : ℕ) → w ≤ 32 → m ≤ q → len ≤ m * w + w + 8 → (q - m) * w ≤ 72
   tail-small m hw hm h =
       let whole : q - m + m ≡ q = omega arith in
       omega (arith, groups-le, add-mul (q - m) m w, ap (λ (k : ℕ). k * w) whole)
 
-fewer : (m q w : ℕ) → m * w < q * w → m ≤ q
-fewer m q w h = go (ltb q m) refl
+-- how far the windows of m groups reach, m the lesser of q and as many as there is room for
+pub front-size : (len w q : ℕ) → 0 < w → 8 ≤ len → len ≤ q * w + 8
+    → let m = min ((len - 8) / w) q in (m * w + 8 ≤ len) × (len ≤ m * w + w + 8) × (m ≤ q)
+front-size len w q some h l = go (leb ((len - 8) / w) q) refl
   where
-    go : (t : Bool) → ltb q m ≡ t → m ≤ q
-    go false e = ltb-false q m e
-    go true e =
-        let more : q ≤ m = omega (arith, ltb-true q m e) in
-        absurd (not-lt (mul-le-mul-right w more))
-      where
-        not-lt : q * w ≤ m * w → ⊥
-        not-lt k = omega arith
+    parts : (len - 8) / w * w + (len - 8) % w ≡ len - 8
+    parts = div-add-mod' (len - 8) w
 
--- the groups whose windows end within the page
-pub front-size : (len w q : ℕ) → 0 < w → 8 ≤ len → len ≤ q * w
-    → ((len - 8) / w * w + 8 ≤ len) × (len < (len - 8) / w * w + w + 8) × ((len - 8) / w ≤ q)
-front-size len w q some h l =
-    let parts : (len - 8) / w * w + (len - 8) % w ≡ len - 8 = div-add-mod' (len - 8) w in
-    let rest : (len - 8) % w < w = mod-lt (len - 8) some in
-    (omega arith, omega arith, fewer ((len - 8) / w) q w (omega arith))
+    go : (t : Bool) → leb ((len - 8) / w) q ≡ t
+        → let m = min ((len - 8) / w) q in (m * w + 8 ≤ len) × (len ≤ m * w + w + 8) × (m ≤ q)
+    go true e =
+        let few : (len - 8) / w ≤ q = leb-true ((len - 8) / w) q e in
+        let least : min ((len - 8) / w) q ≡ (len - 8) / w = omega arith in
+        rw least (omega (arith, parts, mod-lt (len - 8) some), omega (arith, parts, mod-lt (len - 8) some), few)
+    go false e =
+        let many : q ≤ (len - 8) / w = omega (arith, leb-false ((len - 8) / w) q e) in
+        let least : min ((len - 8) / w) q ≡ q = omega arith in
+        rw least (omega (arith, parts, mul-le-mul-right w many), omega arith, omega arith)

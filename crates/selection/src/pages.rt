@@ -9,17 +9,21 @@ ghost use Rattle.selection.specs.Selected.{selected, ranging};
 use crate::groups::select_groups;
 use bitmaps::trim;
 use compare::ranges::Range;
+use words::counts::below;
 
 // The groups, of q, whose windows end within the page: how many they are.
 fn front(page: &[u8], bitmap: &mut [u8], q: usize, w: usize, low: u32, span: u32, flip: u8) -> usize
-    requires { ⌜ (w ≤ 32) × (length (now page) ≤ 2048 * w) × (length (now page) ≤ q * w) × (q ≤ length (now bitmap)) × (low + span < 4294967296) × (flip % 255 ≡ 0) ⌝ }
-    ensures within { λ r. ⌜ (r * w ≤ length (now (page .entry))) × (length (now (page .entry)) < r * w + w + 8) × (r ≤ q) ⌝ }
+    requires { ⌜ (w ≤ 32) × (length (now page) ≤ 65544) × (length (now page) ≤ q * w + 8) × (q ≤ length (now bitmap)) × (low + span < 4294967296) × (flip % 255 ≡ 0) ⌝ }
+    ensures within { λ r. ⌜ (r * w ≤ length (now (page .entry))) × (length (now (page .entry)) ≤ r * w + w + 8) × (r ≤ q) ⌝ }
     ensures written { λ r. ⌜ now (bitmap .exit) ≡ put (now (bitmap .entry)) 0 (selected (now (page .entry)) (8 * r) w (ranging low span flip)) ⌝ }
 {
+    if w == 0 {
+        return 0;
+    }
     if page.len() < 8 {
         return 0;
     }
-    let m = (page.len() - 8) / w;
+    let m = below((page.len() - 8) / w, q);
     select_groups(page, bitmap, m, w, low, span, flip);
     m
 }
@@ -42,14 +46,18 @@ fn tail(page: &[u8], a: usize, bitmap: &mut [u8], k: usize, w: usize, low: u32, 
     requires { ⌜ (w ≤ 32) × (a ≤ length (now page)) × (length (now page) ≤ a + 80) × (k * w ≤ 72) × (k ≤ length (now bitmap)) × (low + span < 4294967296) × (flip % 255 ≡ 0) ⌝ }
     ensures { λ _. ⌜ now (bitmap .exit) ≡ put (now (bitmap .entry)) 0 (selected (drop a (now (page .entry))) (8 * k) w (ranging low span flip)) ⌝ }
 {
+    if k == 0 {
+        return;
+    }
     let mut rest = [0u8; 80];
     copy(page, a, &mut rest);
     select_groups(&rest, bitmap, k, w, low, span, flip);
 }
 
-// The bitmap of the n entries of width w that the page holds, of which the range selects some.
+// The bitmap of the n entries of width w that the page begins with, of which the range selects some. Up to 8 bytes may follow them: then no group's
+// window reaches past the page's end, and nothing is copied.
 pub fn select(page: &[u8], w: usize, n: usize, range: Range, bitmap: &mut [u8])
-    requires { ⌜ (w ≤ 32) × (n ≤ 16384) × (length (now page) ≡ pageBytes w n) × (ceil n 8 ≤ length (now bitmap)) × (range .low + range .span < 4294967296) × (range .flip % 255 ≡ 0) ⌝ }
+    requires { ⌜ (w ≤ 32) × (n ≤ 16384) × (pageBytes w n ≤ length (now page)) × (length (now page) ≤ pageBytes w n + 8) × (ceil n 8 ≤ length (now bitmap)) × (range .low + range .span < 4294967296) × (range .flip % 255 ≡ 0) ⌝ }
     ensures { λ _. ⌜ now (bitmap .exit) ≡ put (now (bitmap .entry)) 0 (selected (now (page .entry)) n w (ranged range)) ⌝ }
 {
     let q = (n + 7) / 8;

@@ -2,12 +2,13 @@
 use mathlib.Core.Path.{_≡_, refl, sym, ap, ap₂, _∙_}
 use mathlib.Core.Bool.{Bool, true, false, not, _&&_, _||_}
 use Prim.Native.Nat.{ℕ, zero, suc, _+_, _-_, _*_, _/_, _%_, _^_, _≤_, _<_, min, max}
-use native.Mathlib.Nat.{not-suc-le-zero, div-one, zero-div, mul-mod-left, one-mul, mul-assoc, zero-add, suc-add, pow-suc, add-comm}
+use native.Mathlib.Nat.{not-suc-le-zero, div-one, zero-div, mul-mod-left, one-mul, mul-assoc, add-zero, zero-add, suc-add, pow-suc, add-comm, lt-of-lt-of-le}
 use native.Mathlib.Numerals.{add-one}
 use native.Mathlib.Omega.{arith}
 use lib.Arith.{lt-one}
-use lib.Pow.{ones-sub-lt, shl-exact, shr-shr, shl-shr, mod-pow-add, low, high}
+use lib.Pow.{pow-mono, ones-sub-lt, shl-exact, shr-shr, shl-shr, mod-pow-add, low, high}
 use lib.Bits.{bitAnd, bitOr, bitXor, differ, and-step, or-step, xor-step, and-shr, or-shr, xor-shr, and-lt, or-lt}
+use mir.Val.{boolByte}
 use Rattle.rules.specs.Bits.{bit, flag, word}
 
 pub bit-lt : (x k : ℕ) → bit x k < 2
@@ -112,6 +113,11 @@ pub flag-lt : (b : Bool) → flag b < 2
 flag-lt true = omega arith
 flag-lt false = omega arith
 
+-- a test cast to a number is its digit
+pub byte-flag : (t : Bool) → boolByte t ≡ flag t
+byte-flag true = refl
+byte-flag false = refl
+
 pub word-lt : (n : ℕ) (f : ℕ → Bool) → word n f < 2 ^ n
 unfolding word
 word-lt zero f = omega arith
@@ -186,6 +192,18 @@ word-add (suc n) m f =
     let h : ℕ = word m (λ k. f (suc (n + k))) in
     let e : h * 2 ^ suc n ≡ h * 2 ^ n * 2 = rw (pow-suc, mul-assoc) in
     simp suc-add (omega (arith, word-add n m (λ k. f (suc k))))
+
+-- n bits and then one more, which is shifted to its place in a word of N bits
+pub word-snoc : (N n : ℕ) (f : ℕ → Bool) (t : Bool) → n < N → t ≡ f n → word n f + (boolByte t * 2 ^ n) % 2 ^ N ≡ word (n + 1) f
+unfolding word
+word-snoc N n f t h e =
+    let one : word 1 (λ k. f (n + k)) ≡ flag (f n) = simp add-zero (omega arith) in
+    let shl : (flag (f n) * 2 ^ n) % 2 ^ N ≡ flag (f n) * 2 ^ n = shl-exact 1 n N (flag-lt (f n)) (omega arith) in
+    rw (byte-flag, e, shl, word-add, one)
+
+-- a word of n bits fits where there are more
+pub word-fits : (n N : ℕ) (f : ℕ → Bool) → n ≤ N → word n f < 2 ^ N
+word-fits n N f h = lt-of-lt-of-le (word-lt n f) (pow-mono {i = n} {j = N} h)
 
 -- the low bits of a word
 pub word-mod : (r n : ℕ) (f : ℕ → Bool) → r ≤ n → word n f % 2 ^ r ≡ word r f

@@ -2,11 +2,11 @@
 use mathlib.Core.Path.{_≡_, refl, sym, ap, ap₂, _∙_}
 use mathlib.Core.List.{List, [], _∷_, _++_}
 use Prim.Native.Nat.{ℕ, zero, suc, _+_, _-_, _*_, _/_, _%_, _^_, _≤_, _<_}
-use native.Mathlib.Nat.{mul-assoc, zero-add, suc-add, pow-suc, pow-succ', one-le-pow, div-one, div-div-eq-div-mul, add-comm, mod-one}
+use native.Mathlib.Nat.{mul-assoc, zero-add, suc-add, pow-suc, pow-succ', one-le-pow, div-one, div-div-eq-div-mul, add-comm, mod-one, mod-eq-of-lt, div-eq-of-lt, lt-of-lt-of-le}
 use native.Mathlib.Numerals.{add-one}
 use native.Mathlib.Omega.{arith}
 use lib.Arith.{mod-mul}
-use lib.Pow.{pow-add}
+use lib.Pow.{pow-add, pow-mono}
 use lib.ListN.{length, take, drop, getD, set, length-drop, drop-of-length-le}
 use lib.Seq.{take-add, drop-drop, drop-cons, length-take-le}
 use Rattle.rules.specs.Bits.{joined, number, bytes, put}
@@ -74,6 +74,18 @@ pub pow-256 : (n : ℕ) → 256 ^ n ≡ 2 ^ (8 * n)
 pow-256 zero = refl
 pow-256 (suc n) =
     pow-suc 256 n ∙ ap (λ (x : ℕ). x * 256) (pow-256 n) ∙ sym (pow-add 2 (8 * n) 8) ∙ ap (λ (x : ℕ). 2 ^ x) (omega arith)
+
+-- bytes enough for the m bits of a number
+in-bytes : (n m x : ℕ) → x < 2 ^ m → m ≤ 8 * n → x < 256 ^ n
+in-bytes n m x h enough = rw pow-256 (lt-of-lt-of-le h (pow-mono {i = m} {j = 8 * n} enough))
+
+-- make the number again
+pub number-whole : (n m x : ℕ) → x < 2 ^ m → m ≤ 8 * n → number (bytes n x) ≡ x
+number-whole n m x h enough = number-bytes n x ∙ mod-eq-of-lt (in-bytes n m x h enough)
+
+-- and k further ones are 0
+pub bytes-further : (n k m x : ℕ) → x < 2 ^ m → m ≤ 8 * n → bytes (n + k) x ≡ bytes n x ++ bytes k 0
+bytes-further n k m x h enough = bytes-add n k x ∙ ap (λ (y : ℕ). bytes n x ++ bytes k y) (div-eq-of-lt (in-bytes n m x h enough))
 
 -- ---- bytes in place
 

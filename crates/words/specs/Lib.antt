@@ -5,3 +5,5 @@ pub mod Joined
 pub mod Entries
 pub mod Appended
 pub mod Tabulated
+pub mod Tests
+pub mod SomeBelow

@@ -26,6 +26,32 @@ module _ {A : Type 0} where
       let p : length (take at l ++ a) ≡ m = length-append (take at l) a ∙ rw (length-take-le at l (omega arith)) in
       rw (take-at (take at l ++ a) (drop m l) m p, ← drop-drop, drop-at (take at l ++ a) (drop m l) m p, drop-drop, length-append, ← add-assoc, ← append-assoc)
 
+  -- a list is stored, and then another behind it
+  pub put-behind : (l : List A) (at : ℕ) (a b : List A) {l₁ l₂ : List A} {i : ℕ} → l₁ ≡ put l at a → i ≡ at + length a → l₂ ≡ put l₁ i b → at + length a + length b ≤ length l → l₂ ≡ put l at (a ++ b)
+  put-behind l at a b first next second h = second ∙ rw (first, next) (put-put l a b at h)
+
+  -- vs was put into l from place `at` on: what is there now, and the next place
+  pub record Stored (l : List A) (at : ℕ) (vs now : List A) (next : ℕ) : Type 0 where
+    pub stored : now ≡ put l at vs
+    pub reached : next ≡ at + length vs
+    pub long : length now ≡ length l
+
+  pub stored-first : (l : List A) (at : ℕ) (vs : List A) {now : List A} {next : ℕ} → now ≡ put l at vs → next ≡ at + length vs → at + length vs ≤ length l → Stored l at vs now next
+  stored-first l at vs e f h = record { stored = e; reached = f; long = ap length e ∙ length-put l at vs h }
+
+  -- and more behind it
+  pub stored-behind : {l : List A} {at : ℕ} {a l₁ : List A} {i : ℕ} (b : List A) {l₂ : List A} {j : ℕ} → Stored l at a l₁ i → l₂ ≡ put l₁ i b → j ≡ i + length b
+      → i + length b ≤ length l₁ → Stored l at (a ++ b) l₂ j
+  stored-behind {l} {at} {a} {l₁} {i} b s e f h =
+      let size = length-append a b in
+      let in-place = s .reached in
+      let same = s .long in
+      record {
+        stored = put-behind l at a b (s .stored) (s .reached) e (omega arith);
+        reached = omega arith;
+        long = ap length e ∙ length-put l₁ i b h ∙ s .long;
+      }
+
   -- a store to one place
   pub set-put : (l : List A) (i : ℕ) (x : A) → i < length l → set l i x ≡ put l i (x ∷ [])
   unfolding put

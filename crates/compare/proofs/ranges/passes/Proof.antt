@@ -1,5 +1,5 @@
 -- `compare::ranges::passes` meets its contract: a difference that wraps is at most span just inside the range.
-use mathlib.Core.Path.{_≡_, ap, _∙_}
+use mathlib.Core.Path.{_≡_, ap}
 use mathlib.Core.Bool.{not}
 use Prim.Native.Nat.{_+_}
 use native.Mathlib.Omega.{arith}

@@ -1,6 +1,7 @@
 -- `horizontal::scanning::scan_band` meets its contract: room and page first, then the band's bitmap and its count.
 use mathlib.Core.Path.{_≡_, sym, ap, _∙_}
 use Prim.Native.Nat.{ℕ, _≤_}
+use native.Mathlib.Omega.{arith}
 use lib.ListN.{length}
 use borrow.Author.Needs.{needs}
 use Rattle.rules.specs.Bits.{ceil, put}
@@ -41,7 +42,7 @@ select-requires c κs =
     let s = c .before .before in
     let p = s .before .before .before .before .pre in
     let g = good s in
-    (p .0, p .1, g .1, g .0, rw (c .before .range-of .ensures) (range-fits _), rw (c .before .range-of .ensures) (range-flip _))
+    (p .0, p .1, omega arith, omega arith, g .0, rw (c .before .range-of .ensures) (range-fits _), rw (c .before .range-of .ensures) (range-flip _))
 
 counted-requires : tie.Need-counted-requires
 counted-requires c κs =

@@ -6,7 +6,7 @@ use lib.ListN.{length, length-set}
 use borrow.Author.Needs.{needs}
 use Rattle.rules.specs.Bits.{put, tabulate}
 use Rattle.words.specs.Puts.{put-none}
-use Rattle.lanes.specs.Rows.{put-tabulate-at}
+use Rattle.words.specs.Tabulated.{put-tabulate-at}
 use Rattle.lanes.specs.Laid.{turnedDown}
 use Rattle.lanes.proofs.laying.lay_few.Statement.{statement}
 use Rattle.lanes.proofs.laying.lay_few.Tie as tie

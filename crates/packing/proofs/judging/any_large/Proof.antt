@@ -1,73 +1,23 @@
--- `packing::judging::any_large` meets its contract: the bits of the entries passed reach 2^w where one of these entries does.
-use mathlib.Core.Path.{_≡_, ap, _∙_}
-use Prim.Native.Nat.{_-_, _^_, _≤_, _<_}
+-- `packing::judging::any_large` meets its contract: the bits of all entries reach 2^w where an entry does.
 use native.Mathlib.Omega.{arith}
-use lib.Dec.{leb}
-use lib.ListN.{length, take, getD}
-use lib.Seq.{take-all}
-use lib.Bits.{or-lt}
-use borrow.Author.Needs.{needs}
-use Rattle.rules.specs.Answer.{anyLarge}
 use Rattle.words.specs.Bits.{one-shl}
-use Rattle.packing.specs.Large.{large-none, large-next}
+use borrow.Author.Needs.{needs}
 use Rattle.packing.proofs.judging.any_large.Statement.{statement}
 use Rattle.packing.proofs.judging.any_large.Tie as tie
 
-abbrev Inv-loop : tie.InvT-loop
-Inv-loop entries w all₀ i₀ all i = (i ≤ length entries) × (all < 2 ^ 32) × (leb (2 ^ w) all ≡ anyLarge w (take i entries))
-
-abbrev μ-loop : tie.MeasureT-loop
-μ-loop entries w all₀ i₀ all i = length entries - i
-
-loop-holds : tie.Need-loop-holds Inv-loop μ-loop
-loop-holds c = (omega arith, omega arith, large-none (c .args .w))
-
-mul-all : tie.Need-mul-all Inv-loop μ-loop
-mul-all c = search needs
-
-shared-slice-read-all : tie.Need-shared-slice-read-all Inv-loop μ-loop
-shared-slice-read-all c = search needs
-
-add-i : tie.Need-add-i Inv-loop μ-loop
-add-i c = search needs
-
-loop-less : tie.Need-loop-less Inv-loop μ-loop
-loop-less c = search needs
-
-loop-again : tie.Need-loop-again Inv-loop μ-loop
-loop-again c =
-    let l = c .before .before .loop in
-    let a = c .before .before .before .args in (
-      omega arith,
-      or-lt 32 (l .all) (getD (a .entries .now) (l .i) 0) (l .inv .1) (c .shared-slice-known .given (l .i) .fits),
-      large-next (a .w) (l .all) (a .entries .now) (l .i) (omega arith) (l .inv .2),
-    )
-
-shl-result : tie.Need-shl-result Inv-loop μ-loop
+shl-result : tie.Need-shl-result
 shl-result c = search needs
 
-cast-result : tie.Need-cast-result Inv-loop μ-loop
-cast-result c = omega arith
+bits-together-requires : tie.Need-bits-together-requires
+bits-together-requires c κs = search needs
 
-returns : tie.Need-returns Inv-loop μ-loop
+cast-result : tie.Need-cast-result
+cast-result c = search needs
+
+returns : tie.Need-returns
 returns c =
-    let a = c .before .before .args in
-    let l = c .before .loop in
-    rw (one-shl 64 (a .w) (omega arith))
-    (l .inv .2 ∙ ap (anyLarge (a .w)) (take-all (l .i) (a .entries .now) (omega arith)))
+    let w = c .before .before .args .w in
+    rw (one-shl 64 w (omega arith)) (c .bits-together .ensures w)
 
 pub any-large-spec : {M : Type 1} → statement M
-any-large-spec =
-    tie.close
-    (tie.spec
-    Inv-loop
-    μ-loop
-    loop-holds
-    mul-all
-    shared-slice-read-all
-    add-i
-    loop-less
-    loop-again
-    shl-result
-    cast-result
-    returns)
+any-large-spec = tie.close (tie.spec shl-result bits-together-requires cast-result returns)

@@ -5,10 +5,9 @@ use native.Mathlib.Omega.{arith}
 use lib.Dec.{leb}
 use borrow.Author.Needs.{needs}
 use Rattle.rules.specs.Bits.{flag}
-use Rattle.words.specs.Bits.{flag-lt}
+use Rattle.words.specs.Bits.{flag-lt, byte-flag}
 use Rattle.compare.specs.Range.{inside}
 use Rattle.compare.specs.Inside.{by-difference}
-use Rattle.selection.specs.Groups.{byte-flag}
 use Rattle.selection.proofs.groups.hit.Statement.{statement}
 use Rattle.selection.proofs.groups.hit.Tie as tie
 

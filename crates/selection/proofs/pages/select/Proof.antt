@@ -19,7 +19,7 @@ front-requires c κs =
     let a = s .args in
     let q = (a .n + 7) / 8 in
     let len = length (a .page .now) in
-    omega (arith, page-le (a .n) (a .w) q len refl (s .pre .2), page-small (a .n) (a .w) q len refl (s .pre .2) (omega arith))
+    omega (arith, page-le (a .n) (a .w) q len refl (s .pre .2) (s .pre .3), page-small (a .n) (a .w) q len refl (s .pre .2) (s .pre .3) (omega arith) (omega arith))
 
 mul-tail : tie.Need-mul-tail
 mul-tail c = search needs
@@ -45,7 +45,7 @@ tail-requires c κs =
     let m = c .before .before .before .front .result in
     let l = c .before .before .before .front .last .1 .0 in
     let part : length (take (length l - m) (drop m l)) ≡ length l - m = ap length (part-rest l m) ∙ length-drop m l in
-    omega (arith, tail-small (a .n) (a .w) q len refl (s .pre .2) m (omega arith) (omega arith) (omega arith))
+    omega (arith, tail-small (a .n) (a .w) q len refl (s .pre .2) (s .pre .3) m (omega arith) (omega arith) (omega arith))
 
 trim-requires : tie.Need-trim-requires
 trim-requires c κs = search needs

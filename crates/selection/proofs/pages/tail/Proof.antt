@@ -6,9 +6,15 @@ use lib.ListN.{drop}
 use borrow.Author.Needs.{needs}
 use Rattle.rules.specs.Bits.{put}
 use Rattle.selection.specs.Selected.{selected, ranging}
+use Rattle.selection.specs.Groups.{none-selected}
 use Rattle.selection.specs.Pages.{selected-padded}
 use Rattle.selection.proofs.pages.tail.Statement.{statement}
 use Rattle.selection.proofs.pages.tail.Tie as tie
+
+returns : tie.Need-returns
+returns c =
+    let a = c .before .before .before .args in
+    rw (c .if1 .taken) (none-selected (a .bitmap .now) (drop (a .a) (a .page .now)) (a .w) (ranging (a .low) (a .span) (a .flip)))
 
 slice-aggregate-copy : tie.Need-slice-aggregate-copy
 slice-aggregate-copy c = search needs
@@ -25,9 +31,9 @@ select-groups-requires c κs = search needs
 same-length : tie.Need-same-length
 same-length c = search needs
 
-returns : tie.Need-returns
-returns c =
-    let a = c .before .before .before .before .before .before .before .before .before .before .args in
+returns-2 : tie.Need-returns-2
+returns-2 c =
+    let a = c .before .before .before .before .before .before .before .before .before .before .before .args in
     c .before .before .select-groups .ensures
     ∙ ap (λ (r : List ℕ). put (a .bitmap .now) 0 (selected r (8 * a .k) (a .w) (ranging (a .low) (a .span) (a .flip)))) (c .before .before .before .before .before .before .copy .ensures)
     ∙ ap (put (a .bitmap .now) 0) (selected-padded (drop (a .a) (a .page .now)) 80 (8 * a .k) (a .w) (ranging (a .low) (a .span) (a .flip)))
@@ -36,9 +42,10 @@ pub tail-spec : {M : Type 1} → statement M
 tail-spec =
     tie.close
     (tie.spec
+    returns
     slice-aggregate-copy
     copy-requires
     slice-aggregate-select-groups
     select-groups-requires
     same-length
-    returns)
+    returns-2)

@@ -1,0 +1,35 @@
+-- `compare::signed_ranges::signed_range_of` meets its contract: the band's ends are read back from their bits, and the last is at most 2^32.
+use mathlib.Core.Path.{_∙_}
+use borrow.Author.Needs.{needs}
+use mir.Syntax.{w64}
+use mir.ValLaws.{toZ-ofZ}
+use Rattle.compare.specs.SignedRange.{signedRangeOf}
+use Rattle.compare.specs.SignedCuts.{signed-next-le}
+use Rattle.compare.proofs.signed_ranges.signed_range_of.Statement.{statement}
+use Rattle.compare.proofs.signed_ranges.signed_range_of.Tie as tie
+
+cut-requires : tie.Need-cut-requires
+cut-requires c κs = search needs
+
+next-requires : tie.Need-next-requires
+next-requires c κs = search needs
+
+range-to-requires : tie.Need-range-to-requires
+range-to-requires c κs = rw (c .next .ensures) (signed-next-le 32 _)
+
+returns : tie.Need-returns
+unfolding signedRangeOf
+returns c =
+    let s = c .before .before .before .before in
+    let band = s .before .args .band in
+    let fits = s .struct-told .given in
+    c .range-to .ensures
+    ∙ rw (
+      c .before .before .before .cut .ensures,
+      c .before .next .ensures,
+      toZ-ofZ w64 (band .low) (record { sfits = fits .0 .1 }),
+      toZ-ofZ w64 (band .high) (record { sfits = fits .1 .0 .1 }),
+    )
+
+pub signed-range-of-spec : {M : Type 1} → statement M
+signed-range-of-spec = tie.close (tie.spec cut-requires next-requires range-to-requires returns)
