@@ -66,17 +66,17 @@ group-word body g w at k test e =
     word-ext k (λ i l. ap (λ (b : ℕ). test (field lowFirst body b w)) (places i))
 
 -- g groups of eight entries are g × w bytes, and the other entries lie in the bytes behind them
-module _ (g w m len : ℕ) (size : len ≡ pageBytes w m) where
+module _ (g w m : ℕ) where
   bits-split : 8 * g ≤ m → m * w ≡ 8 * (g * w) + (m - 8 * g) * w
   bits-split h =
       let whole : m ≡ 8 * g + (m - 8 * g) = omega arith in
       ap (λ (k : ℕ). k * w) whole ∙ rw (add-mul, mul-assoc)
 
-  pub groups-rest : 8 * g ≤ m → len ≡ g * w + pageBytes w (m - 8 * g)
+  pub groups-rest : 8 * g ≤ m → pageBytes w m ≡ g * w + pageBytes w (m - 8 * g)
   groups-rest h = omega (arith, bits-split h)
 
   -- 448 entries more
-  pub groups-more : 8 * g + 448 ≤ m → g * w + 56 * w ≤ len
+  pub groups-more : 8 * g + 448 ≤ m → g * w + 56 * w ≤ pageBytes w m
   groups-more h =
       let few : 448 ≤ m - 8 * g = omega arith in
       omega (arith, groups-rest (omega arith), mul-le-mul-right w few)

@@ -11,9 +11,9 @@ use crate::bits::append_bits;
 use compare::ranges::Range;
 use selection::pages::select;
 
-// The k entries of a part that holds exactly these, at most 448.
+// The k entries that a part begins with, at most 448. Up to 8 bytes may follow them.
 fn mark_part(part: &[u8], w: usize, k: usize, range: Range, bitmap: &mut [u8], p: usize)
-    requires { ⌜ (w ≤ 32) × (0 < k) × (k ≤ 448) × (length (now part) ≡ pageBytes w k) × (p ≤ 32768) × (p + k ≤ 8 * length (now bitmap)) × (range .low + range .span < 4294967296) × (range .flip % 255 ≡ 0) ⌝ }
+    requires { ⌜ (w ≤ 32) × (0 < k) × (k ≤ 448) × (pageBytes w k ≤ length (now part)) × (length (now part) ≤ pageBytes w k + 8) × (p ≤ 32768) × (p + k ≤ 8 * length (now bitmap)) × (range .low + range .span < 4294967296) × (range .flip % 255 ≡ 0) ⌝ }
     ensures { λ _. ⌜ now (bitmap .exit) ≡ appended (now (bitmap .entry)) p (word k (λ i. ranged range (entry lowFirst (now (part .entry)) w i))) k ⌝ }
 {
     let mut bits = [0u8; 64];
@@ -32,7 +32,7 @@ fn mark_between(
     bitmap: &mut [u8],
     p: usize,
 )
-    requires { ⌜ (w ≤ 32) × (0 < k) × (k ≤ 448) × (to ≡ from + pageBytes w k) × (to ≤ length (now body)) × (p ≤ 32768) × (p + k ≤ 8 * length (now bitmap)) × (range .low + range .span < 4294967296) × (range .flip % 255 ≡ 0) ⌝ }
+    requires { ⌜ (w ≤ 32) × (0 < k) × (k ≤ 448) × (from + pageBytes w k ≤ to) × (to ≤ from + pageBytes w k + 8) × (to ≤ length (now body)) × (p ≤ 32768) × (p + k ≤ 8 * length (now bitmap)) × (range .low + range .span < 4294967296) × (range .flip % 255 ≡ 0) ⌝ }
     ensures { λ _. ⌜ now (bitmap .exit) ≡ appended (now (bitmap .entry)) p (word k (λ i. ranged range (field lowFirst (now (body .entry)) (8 * from + i * w) w))) k ⌝ }
 {
     mark_part(&body[from..to], w, k, range, bitmap, p);
@@ -40,7 +40,7 @@ fn mark_between(
 
 // From inside a byte on: 448 entries, which are 56 × w bytes, at a time.
 fn mark_inside(body: &[u8], w: usize, m: usize, range: Range, bitmap: &mut [u8], p: usize)
-    requires { ⌜ (w ≤ 32) × (0 < m) × (m ≤ 16384) × (p ≤ 16384) × (length (now body) ≡ pageBytes w m) × (p + m ≤ 8 * length (now bitmap)) × (range .low + range .span < 4294967296) × (range .flip % 255 ≡ 0) ⌝ }
+    requires { ⌜ (w ≤ 32) × (0 < m) × (m ≤ 16384) × (p ≤ 16384) × (pageBytes w m ≤ length (now body)) × (length (now body) ≤ pageBytes w m + 8) × (p + m ≤ 8 * length (now bitmap)) × (range .low + range .span < 4294967296) × (range .flip % 255 ≡ 0) ⌝ }
     ensures { λ _. ⌜ now (bitmap .exit) ≡ appended (now (bitmap .entry)) p (word m (λ k. ranged range (entry lowFirst (now (body .entry)) w k))) m ⌝ }
 {
     let mut g: usize = 0;
@@ -53,9 +53,9 @@ fn mark_inside(body: &[u8], w: usize, m: usize, range: Range, bitmap: &mut [u8],
     mark_between(body, at, body.len(), w, m - 8 * g, range, bitmap, p + 8 * g);
 }
 
-// m packed entries, of which the range selects some, from bit p on. `body` holds exactly these entries.
+// m packed entries, of which the range selects some, from bit p on. Up to 8 bytes may follow them in the body.
 pub fn mark_packed(body: &[u8], w: usize, m: usize, range: Range, bitmap: &mut [u8], p: usize)
-    requires { ⌜ (w ≤ 32) × (0 < m) × (m ≤ 16384) × (p ≤ 16384) × (length (now body) ≡ pageBytes w m) × (p + m ≤ 8 * length (now bitmap)) × (range .low + range .span < 4294967296) × (range .flip % 255 ≡ 0) ⌝ }
+    requires { ⌜ (w ≤ 32) × (0 < m) × (m ≤ 16384) × (p ≤ 16384) × (pageBytes w m ≤ length (now body)) × (length (now body) ≤ pageBytes w m + 8) × (p + m ≤ 8 * length (now bitmap)) × (range .low + range .span < 4294967296) × (range .flip % 255 ≡ 0) ⌝ }
     ensures { λ _. ⌜ now (bitmap .exit) ≡ appended (now (bitmap .entry)) p (word m (λ k. ranged range (entry lowFirst (now (body .entry)) w k))) m ⌝ }
 {
     if p % 8 == 0 {

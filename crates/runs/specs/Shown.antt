@@ -1,6 +1,5 @@
 -- What a run that was read says of the page, case by case.
 use mathlib.Core.Path.{_≡_, refl, subst}
-use mathlib.Core.Bool.{Bool, true, false, cond}
 use mathlib.Core.List.{List}
 use Prim.Native.Nat.{ℕ, _+_, _-_, _*_, _/_, _%_, _^_, _<_, _≤_}
 use native.Mathlib.Omega.{arith}
@@ -15,6 +14,7 @@ use Rattle.rules.specs.declared.Number.the-variants.{Read, Ended, Beyond}
 use Rattle.rules.specs.declared.Run.{Run}
 use Rattle.rules.specs.declared.Run.the-variants.{Repeated, Packed, Refused}
 use Rattle.varints.specs.Places.{next-within}
+use Rattle.words.specs.Tests.{either}
 
 -- a header h was read that ends at p, and what follows it passed every test
 pub data Shown (w left : ℕ) (page : List ℕ) (at : ℕ) : Run → Type 0 where
@@ -23,11 +23,6 @@ pub data Shown (w left : ℕ) (page : List ℕ) (at : ℕ) : Run → Type 0 wher
       → Shown w left page at (Repeated (h / 2) (number (take (ceil w 8) (drop p page))) (p + ceil w 8))
   packs : (h p : ℕ) → numberAt 32 page at ≡ Read h p → h ≡ 2 * (h / 2) + 1 → 0 < h / 2 → 8 * (h / 2) ≤ left + 7 → w * (h / 2) ≤ length page - p
       → Shown w left page at (Packed (h / 2) p (p + w * (h / 2)))
-
--- what both ways of a test give, the test gives
-either : {A : Type 0} {x y : A} (P : A → Type 0) (test : Bool) → (test ≡ true → P x) → (test ≡ false → P y) → P (cond test x y)
-either P true f g = f refl
-either P false f g = g refl
 
 module _ (w left : ℕ) (page : List ℕ) (at : ℕ) where
   pub shown : Shown w left page at (runAt w left page at)

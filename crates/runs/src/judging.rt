@@ -3,8 +3,8 @@ ghost use mathlib.Core.Path.{_≡_};
 ghost use Prim.Native.Nat.{_≤_};
 ghost use Rattle.rules.specs.Runs.{read, streamFault};
 use crate::reading::run_at;
-use crate::reading::still_left;
 use rules::Run;
+use words::counts::still_left;
 
 // 0, or the code of the first fault in reading order.
 pub fn stream_fault(page: &[u8], w: usize, n: usize) -> u32

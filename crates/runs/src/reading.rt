@@ -79,13 +79,3 @@ pub fn run_at(page: &[u8], at: usize, w: usize, left: usize) -> Run
         packed_at(&page[next..], next, w, left, half)
     }
 }
-
-// How many of the entries that were left a run leaves; the last packed run may pass them.
-pub fn still_left(left: usize, entries: usize) -> usize
-    ensures { λ r. ⌜ r ≡ left - entries ⌝ }
-{
-    if left < entries {
-        return 0;
-    }
-    left - entries
-}

@@ -5,19 +5,18 @@ use mathlib.Core.List.{List}
 use Prim.Native.Nat.{ℕ, _+_, _*_, _≤_, _<_, min}
 use native.Mathlib.Omega.{arith}
 use lib.ListN.{getD, take, drop}
-use Rattle.rules.specs.Bits.{word, bytes, field, entry, put}
+use Rattle.rules.specs.Bits.{word, field, entry, put}
 use Rattle.rules.specs.Bits.Order.{lowFirst}
 use Rattle.rules.specs.Bitmap.{bitmap}
 use Rattle.rules.specs.Runs.{Piece, cutEntries}
 use Rattle.rules.specs.Grammar.{Cut}
 use Rattle.words.specs.Bits.{word-ext}
-use Rattle.words.specs.Puts.{put-none}
 use Rattle.words.specs.Appended.{appended}
-use Rattle.bitmaps.specs.Bitmaps.{appended-bitmap}
+use Rattle.bitmaps.specs.Bitmaps.{bitmap-none, appended-bitmap}
 use Rattle.runs.specs.Second.{putAll, pass, pass-cut}
 use Rattle.marking.specs.Packed.{part-word}
 use Rattle.streams.specs.Covered.{written, covers}
-use Rattle.streams.specs.Turns.{body-fits}
+use Rattle.packing.specs.Filled.{body-fits}
 
 -- m entries' bits are put behind those in place
 abbrev pub marks : (ℕ → Bool) → ℕ → ℕ → (ℕ → ℕ) → List ℕ → List ℕ
@@ -30,10 +29,6 @@ marked test w n page out = pass (written n (marks test) w) w n page out
 pub marked-pass : (test : ℕ → Bool) (w n : ℕ) (page out : List ℕ) → marked test w n page out ≡ pass (written n (marks test) w) w n page out
 unfolding marked
 marked-pass test w n page out = refl
-
-nothing : (out : List ℕ) (test : ℕ → Bool) → out ≡ put out 0 (bitmap 0 test)
-unfolding bitmap bytes
-nothing out test = put-none out 0
 
 pub marked-cut : (test : ℕ → Bool) (w n : ℕ) (page : List ℕ) (ps : List Piece) (out : List ℕ) → Cut w n page ps
     → marked test w n page out ≡ put out 0 (bitmap n (λ i. test (getD (cutEntries w ps) i 0)))
@@ -52,7 +47,7 @@ marked-cut test w n page ps out cut =
         ∙ appended-bitmap out i m (λ k. test (f k))
 
     none : out ≡ holding 0 (λ i. getD (cutEntries w ps) i 0)
-    none = nothing out (λ i. test (getD (cutEntries w ps) i 0))
+    none = bitmap-none out 0 (λ i. test (getD (cutEntries w ps) i 0))
 
 -- a packed run's bits, of the entries as they lie in the page
 pub marked-body : (test : ℕ → Bool) (page out new : List ℕ) (w start groups left i m : ℕ) → m ≡ min (8 * groups) left

@@ -2,7 +2,6 @@
 use mathlib.Core.Path.{_≡_, sym, ap, subst₂, _∙_}
 use mathlib.Core.List.{List}
 use Prim.Native.Nat.{ℕ, _+_, _-_, _*_, _≤_, _<_, min}
-use native.Mathlib.Nat.{mul-comm, mul-assoc, mul-le-mul-right}
 use native.Mathlib.Omega.{arith}
 use lib.ListN.{take, drop}
 use Rattle.rules.specs.Bits.{entry}
@@ -14,10 +13,6 @@ use Rattle.runs.specs.Walks as Walks
 use Rattle.runs.specs.Second.{writing, pass, pass-comes}
 use Rattle.runs.specs.Shown.{ran-repeated, ran-packed}
 use Rattle.streams.specs.Covered.{written}
-
--- a packed run's entries lie in its body
-pub body-fits : (w groups m : ℕ) → m ≤ 8 * groups → m * w ≤ 8 * (w * groups)
-body-fits w groups m h = omega (arith, mul-le-mul-right w h, mul-assoc 8 groups w, mul-comm groups w)
 
 module _ {O : Type 0} (n : ℕ) (write : ℕ → ℕ → (ℕ → ℕ) → O → O) (w : ℕ) (page : List ℕ) (x : O) where
   abbrev pub onward : ℕ → ℕ → O → Type 0

@@ -1,6 +1,6 @@
 // Each run of a stream sets its own bits.
 ghost use mathlib.Core.Path.{_≡_};
-ghost use Prim.Native.Nat.{_+_, _-_, _*_, _%_, _≤_, _<_, min};
+ghost use Prim.Native.Nat.{_+_, _*_, _%_, _≤_, _<_};
 ghost use lib.ListN.{length};
 ghost use Rattle.rules.specs.Bits.{ceil, word, field};
 ghost use Rattle.rules.specs.Bits.Order.{lowFirst};
@@ -13,8 +13,9 @@ use marking::packed::mark_packed;
 use marking::same::mark_same;
 use rules::Run;
 use runs::reading::run_at;
+use words::counts::below;
 
-// The first m entries of the packed run whose body begins at byte `start`, from bit p on.
+// The first m entries of the packed run whose body begins at byte `start`, from bit p on; what follows them on the page is lent with them.
 fn mark_body(
     page: &[u8],
     start: usize,
@@ -27,18 +28,8 @@ fn mark_body(
     requires { ⌜ (w ≤ 32) × (0 < m) × (m ≤ 16384) × (p ≤ 16384) × (start + ceil (m * w) 8 ≤ length (now page)) × (p + m ≤ 8 * length (now bitmap)) × (range .low + range .span < 4294967296) × (range .flip % 255 ≡ 0) ⌝ }
     ensures { λ _. ⌜ now (bitmap .exit) ≡ appended (now (bitmap .entry)) p (word m (λ k. ranged range (field lowFirst (now (page .entry)) (8 * start + k * w) w))) m ⌝ }
 {
-    let end = start + (m * w + 7) / 8;
+    let end = below(start + (m * w + 7) / 8 + 8, page.len());
     mark_packed(&page[start..end], w, m, range, bitmap, p);
-}
-
-// How many of a run's entries are below n.
-pub fn below(entries: usize, left: usize) -> usize
-    ensures { λ r. ⌜ r ≡ min entries left ⌝ }
-{
-    if left < entries {
-        return left;
-    }
-    entries
 }
 
 // All runs, in turn; a fault ends the pass.

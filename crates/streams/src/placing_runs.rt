@@ -5,10 +5,10 @@ ghost use lib.ListN.{length};
 ghost use Rattle.rules.specs.Bits.{ceil, field, put, tabulate};
 ghost use Rattle.rules.specs.Bits.Order.{lowFirst};
 ghost use Rattle.streams.specs.Placed.{placed};
-use crate::marking_runs::below;
 use packing::unpacking::unpack;
 use rules::Run;
 use runs::reading::run_at;
+use words::counts::below;
 
 // One value into the first m places.
 fn fill(places: &mut [u32], m: usize, value: u32)
@@ -41,7 +41,7 @@ fn place_body(page: &[u8], start: usize, w: u32, m: usize, entries: &mut [u32], 
 // All runs, in turn; a fault ends the pass.
 pub fn place_runs(page: &[u8], w: u32, n: usize, entries: &mut [u32])
     requires { ⌜ (w ≤ 32) × (n ≤ 16384) × (n ≤ length (now entries)) ⌝ }
-    ensures { λ _. ⌜ now (entries .exit) ≡ placed w n (now (page .entry)) (now (entries .entry)) ⌝ }
+    ensures { λ _. ⌜ now (entries .exit) ≡ placed (λ x. x) w n (now (page .entry)) (now (entries .entry)) ⌝ }
 {
     let mut at: usize = 0;
     let mut i: usize = 0;

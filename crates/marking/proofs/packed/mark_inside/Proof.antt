@@ -29,11 +29,11 @@ unfolding word
 loop-holds c = (omega arith, omega arith, omega arith, begun-none _ _)
 
 -- 448 entries more lie within the body
-room : (c : tie.In-loop Inv-loop μ-loop) → let a = c .before .before .before .before .args in c .before .loop .at + 56 * a .w ≤ length (a .body .now)
+room : (c : tie.In-loop Inv-loop μ-loop) → let a = c .before .before .before .before .args in c .before .loop .at + 56 * a .w ≤ pageBytes (a .w) (a .m)
 room c =
     let s = c .before .before .before .before in
     let l = c .before .loop in
-    rw (l .inv .1) (groups-more (l .g) (s .args .w) (s .args .m) (length (s .args .body .now)) (s .pre .4) (omega arith))
+    rw (l .inv .1) (groups-more (l .g) (s .args .w) (s .args .m) (omega arith))
 
 mul-loop : tie.Need-mul-loop Inv-loop μ-loop
 mul-loop c = omega arith
@@ -106,8 +106,8 @@ mark-between-requires-2 : tie.Need-mark-between-requires-2 Inv-loop μ-loop
 mark-between-requires-2 c κs =
     let s = c .before .before .before .before .before in
     let l = c .before .before .loop in
-    let size : length (s .args .body .now) ≡ l .at + pageBytes (s .args .w) (s .args .m - 8 * l .g) =
-    rw (l .inv .1) (groups-rest (l .g) (s .args .w) (s .args .m) (length (s .args .body .now)) (s .pre .4) (omega arith)) in
+    let size : pageBytes (s .args .w) (s .args .m) ≡ l .at + pageBytes (s .args .w) (s .args .m - 8 * l .g) =
+    rw (l .inv .1) (groups-rest (l .g) (s .args .w) (s .args .m) (omega arith)) in
     search needs
 
 same-length : tie.Need-same-length Inv-loop μ-loop

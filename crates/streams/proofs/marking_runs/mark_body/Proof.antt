@@ -14,14 +14,20 @@ use Rattle.streams.proofs.marking_runs.mark_body.Tie as tie
 few-bits : (m w : ℕ) → m ≤ 16384 → w ≤ 32 → m * w ≤ 524288
 few-bits m w h k = mul-le-mul {n₁ = m} {m₁ = w} {n₂ = 16384} {m₂ = 32} h k
 
-mul-end : tie.Need-mul-end
-mul-end c = let b = c .before .before in omega (arith, few-bits (b .args .m) (b .args .w) (search needs) (search needs))
+mul-below : tie.Need-mul-below
+mul-below c = let b = c .before .before in omega (arith, few-bits (b .args .m) (b .args .w) (search needs) (search needs))
 
-add-end : tie.Need-add-end
-add-end c = let b = c .before .before in omega (arith, few-bits (b .args .m) (b .args .w) (search needs) (search needs))
+add-below : tie.Need-add-below
+add-below c = let b = c .before .before in omega (arith, few-bits (b .args .m) (b .args .w) (search needs) (search needs))
 
-add-end-2 : tie.Need-add-end-2
-add-end-2 c = search needs
+add-below-2 : tie.Need-add-below-2
+add-below-2 c = search needs
+
+add-below-3 : tie.Need-add-below-3
+add-below-3 c = search needs
+
+below-requires : tie.Need-below-requires
+below-requires c κs = search needs
 
 sub-mark-packed : tie.Need-sub-mark-packed
 sub-mark-packed c = search needs
@@ -40,8 +46,8 @@ same-length c = search needs
 
 returns : tie.Need-returns
 returns c =
-    let a = c .before .before .before .before .before .before .before .args in
-    let end : ℕ = a .start + (a .m * a .w + 7) / 8 in
+    let a = c .before .before .before .before .before .before .before .before .args in
+    let end = c .before .before .before .before .before .below .result in
     c .before .before .mark-packed .ensures
     ∙ ap (λ (x : ℕ). appended (a .bitmap .now) (a .p) x (a .m)) (part-word (a .page .now) (a .start) (end - a .start) (a .w) (a .m) (ranged (a .range)) (omega arith))
 
@@ -49,9 +55,11 @@ pub mark-body-spec : {M : Type 1} → statement M
 mark-body-spec =
     tie.close
     (tie.spec
-    mul-end
-    add-end
-    add-end-2
+    mul-below
+    add-below
+    add-below-2
+    add-below-3
+    below-requires
     sub-mark-packed
     part-mark-packed-start
     part-mark-packed-end

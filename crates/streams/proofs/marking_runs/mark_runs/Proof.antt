@@ -10,10 +10,11 @@ use Rattle.rules.specs.Bits.{word}
 use Rattle.rules.specs.Runs.{runAt}
 use Rattle.rules.specs.declared.Run.the-variants.{Repeated, Packed}
 use Rattle.compare.specs.Range.{ranged}
+use Rattle.packing.specs.Filled.{body-fits}
 use Rattle.runs.specs.Shown.{ran-repeated, ran-packed}
 use Rattle.words.specs.Appended.{appended}
 use Rattle.streams.specs.Marked.{marks, marked, marked-pass, marked-body}
-use Rattle.streams.specs.Turns.{body-fits, onward, begins, on-repeated, on-packed, on-refused, ends}
+use Rattle.streams.specs.Turns.{onward, begins, on-repeated, on-packed, on-refused, ends}
 use Rattle.streams.proofs.marking_runs.mark_runs.Statement.{statement}
 use Rattle.streams.proofs.marking_runs.mark_runs.Tie as tie
 

@@ -41,7 +41,7 @@ returns : tie.Need-returns
 returns c =
     let a = c .before .before .before .before .before .before .before .args in
     part-put (a .entries .now) _ _ (a .p) (c .before .before .unpack .ensures)
-    ∙ ap (put (a .entries .now) (a .p)) (part-entries (a .page .now) (a .start) (length (a .page .now) - a .start) (a .w) (a .m) (omega arith))
+    ∙ ap (put (a .entries .now) (a .p)) (part-entries (λ x. x) (a .page .now) (a .start) (length (a .page .now) - a .start) (a .w) (a .m) (omega arith))
 
 pub place-body-spec : {M : Type 1} → statement M
 place-body-spec =

@@ -7,15 +7,16 @@ use lib.ListN.{length}
 use borrow.Author.Needs.{needs}
 use Rattle.rules.specs.Runs.{runAt}
 use Rattle.rules.specs.declared.Run.the-variants.{Repeated, Packed}
+use Rattle.packing.specs.Filled.{body-fits}
 use Rattle.runs.specs.Shown.{ran-repeated, ran-packed}
 use Rattle.streams.specs.Placed.{places, placed, placed-pass, placed-body}
-use Rattle.streams.specs.Turns.{body-fits, onward, begins, on-repeated, on-packed, on-refused, ends}
+use Rattle.streams.specs.Turns.{onward, begins, on-repeated, on-packed, on-refused, ends}
 use Rattle.streams.proofs.placing_runs.place_runs.Statement.{statement}
 use Rattle.streams.proofs.placing_runs.place_runs.Tie as tie
 
 abbrev Inv-loop : tie.InvT-loop
 Inv-loop page w n entries₀ at₀ i₀ entries at i =
-    (i ≤ n + 7) × (length entries ≡ length entries₀) × onward n places w page (placed w n page entries₀) at i entries
+    (i ≤ n + 7) × (length entries ≡ length entries₀) × onward n (places (λ x. x)) w page (placed (λ x. x) w n page entries₀) at i entries
 
 abbrev μ-loop : tie.MeasureT-loop
 μ-loop page w n entries₀ at₀ i₀ entries at i = n - i
@@ -32,7 +33,7 @@ packed-run c = sym (c .before .before .before .run-at .ensures) ∙ c .before .r
 loop-holds : tie.Need-loop-holds Inv-loop μ-loop
 loop-holds c =
     let a = c .before .before .args in
-    (search needs, refl, begins (a .n) places (a .w) (a .page .now) _ (a .entries .now) (placed-pass _ _ _ _))
+    (search needs, refl, begins (a .n) (places (λ x. x)) (a .w) (a .page .now) _ (a .entries .now) (placed-pass (λ x. x) _ _ _ _))
 
 sub-run-at : tie.Need-sub-run-at Inv-loop μ-loop
 sub-run-at c = search needs
@@ -62,7 +63,7 @@ loop-again c =
     let ran = ran-repeated _ _ _ _ (repeated-run r) in (
       omega arith,
       search needs,
-      on-repeated _ places _ _ _ (omega arith) (b .loop .inv .2) (repeated-run r)
+      on-repeated _ (places (λ x. x)) _ _ _ (omega arith) (b .loop .inv .2) (repeated-run r)
           (c .before .before .place-same .ensures),
     )
 
@@ -108,8 +109,8 @@ loop-again-2 c =
     let ran = ran-packed _ _ _ _ (packed-run r) in (
       omega arith,
       search needs,
-      on-packed _ places _ _ _ (omega arith) (b .loop .inv .2) (packed-run r)
-          (placed-body (a .page .now) _ _ (a .w) (v .1 .0) (v .0) _ _ _ (c .before .before .before .before .below .ensures) (c .before .before .place-body .ensures)),
+      on-packed _ (places (λ x. x)) _ _ _ (omega arith) (b .loop .inv .2) (packed-run r)
+          (placed-body (λ x. x) (a .page .now) _ _ (a .w) (v .1 .0) (v .0) _ _ _ (c .before .before .before .before .below .ensures) (c .before .before .place-body .ensures)),
     )
 
 enum-told : tie.Need-enum-told Inv-loop μ-loop
@@ -121,13 +122,13 @@ same-length c = search needs
 returns : tie.Need-returns Inv-loop μ-loop
 returns c =
     let b = c .before .before .before .before in
-    sym (on-refused _ places _ _ _ (search needs) (b .loop .inv .2) (sym (c .before .before .run-at .ensures) ∙ c .enum-told .given .1))
+    sym (on-refused _ (places (λ x. x)) _ _ _ (search needs) (b .loop .inv .2) (sym (c .before .before .run-at .ensures) ∙ c .enum-told .given .1))
 
 same-length-2 : tie.Need-same-length-2 Inv-loop μ-loop
 same-length-2 c = search needs
 
 returns-2 : tie.Need-returns-2 Inv-loop μ-loop
-returns-2 c = sym (ends _ places _ _ _ (c .before .loop .inv .2) (search needs))
+returns-2 c = sym (ends _ (places (λ x. x)) _ _ _ (c .before .loop .inv .2) (search needs))
 
 pub place-runs-spec : {M : Type 1} → statement M
 place-runs-spec =

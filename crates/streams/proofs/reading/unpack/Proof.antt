@@ -65,7 +65,7 @@ returns-3 c =
     let a = e .before .before .before .before .before .before .args in
     let z = then-zero _ _ (sym (e .before .fault .ensures) ∙ e .if2 .left) in
     accepted-is _ _ _ _ _ _ (faults (e .before) ∙ e .if2 .left) (c .done .ensures ∙ ap accepted (sym (length-tabulate _ _)))
-    (s .place-runs .ensures ∙ placed-read (a .width) (a .n) (a .page .now) (a .entries .now) (has-room _ _ (z .0)) (z .1))
+    (s .place-runs .ensures ∙ placed-read (λ x. x) (a .width) (a .n) (a .page .now) (a .entries .now) (has-room _ _ (z .0)) (z .1))
 
 pub unpack-spec : {M : Type 1} → statement M
 unpack-spec =

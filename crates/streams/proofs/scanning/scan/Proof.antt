@@ -3,9 +3,10 @@ use mathlib.Core.Path.{_≡_, sym, _∙_}
 use mir.Syntax.{w64}
 use mir.ValLaws.{toZ-ofZ}
 use borrow.Author.Needs.{needs}
+use Rattle.rules.specs.Answer.{limitFault}
 use Rattle.rules.specs.Runs as Runs
 use Rattle.scans.specs.Arguments.{argumentsOf}
-use Rattle.scans.specs.Laws.{good-arguments, scan-bad, scan-good}
+use Rattle.scans.specs.Laws.{scan-bad, unsigned-limits, unsigned-good}
 use Rattle.streams.specs.Values.{entry-small}
 use Rattle.streams.proofs.scanning.scan.Statement.{statement}
 use Rattle.streams.proofs.scanning.scan.Tie as tie
@@ -14,7 +15,7 @@ arguments-of-requires : tie.Need-arguments-of-requires
 arguments-of-requires c κs = search needs
 
 -- the constants come through the call as they are
-judgement : (c : tie.After-arguments-of) → let a = c .before .before .before .args in argumentsOf (a .width) (a .n) (a .op) (a .a) (a .b) ≡ c .arguments-of .result
+judgement : (c : tie.After-arguments-of) → let a = c .before .before .before .args in argumentsOf (limitFault (a .width) (a .n)) (a .op) (a .a) (a .b) ≡ c .arguments-of .result
 judgement c =
     let s = c .before .before .before in
     sym (rw (toZ-ofZ w64 (s .args .a) (s .fits .a), toZ-ofZ w64 (s .args .b) (s .fits .b)) at (c .arguments-of .ensures))
@@ -31,7 +32,7 @@ enum-known-arguments-2 c = search needs
 scan-band-requires : tie.Need-scan-band-requires
 scan-band-requires c κs =
     let s = c .before .before in
-    good-arguments _ _ _ _ _ _ (judgement (s .before .before) ∙ s .arguments2 .given .1) .within
+    unsigned-limits _ _ _ _ _ _ (judgement (s .before .before) ∙ s .arguments2 .given .1)
 
 returns : tie.Need-returns
 unfolding Runs.scan
@@ -39,7 +40,7 @@ returns c =
     let s = c .before .before in
     let f = s .before .before .before .before .before in
     let a = f .args in
-    scan-bad (a .width) (a .n) (a .op) (a .a) (a .b) _ _ _ _ _ _ (judgement (s .before .before) ∙ s .arguments .given .1) (c .refused .ensures)
+    scan-bad (limitFault (a .width) (a .n)) (a .op) (a .a) (a .b) _ _ _ _ _ _ (judgement (s .before .before) ∙ s .arguments .given .1) (c .refused .ensures)
 
 same-length : tie.Need-same-length
 same-length c = search needs
@@ -51,7 +52,7 @@ returns-2 c =
     let f = s .before .before .before .before .before in
     let a = f .args in
     let good = judgement (s .before .before) ∙ s .arguments2 .given .1 in
-    scan-good (a .width) (a .n) (a .op) (a .a) (a .b) _ (Runs.streamEntry (a .width) (Runs.read (a .width) (a .n) (a .page .now))) _ _ _ _ good (λ i. entry-small (a .width) (a .n) (a .page .now) i (good-arguments _ _ _ _ _ _ good .within .0)) (c .before .before .scan-band .ensures)
+    unsigned-good (a .width) (a .n) (a .op) (a .a) (a .b) _ good _ (Runs.streamEntry (a .width) (Runs.read (a .width) (a .n) (a .page .now))) _ _ _ (λ i. entry-small (a .width) (a .n) (a .page .now) i (unsigned-limits _ _ _ _ _ _ good .0)) (c .before .before .scan-band .ensures)
 
 pub scan-spec : {M : Type 1} → statement M
 scan-spec =
