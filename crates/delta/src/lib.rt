@@ -1,0 +1,5 @@
+// Delta pages: scan, unpack, pack.
+pub mod judging;
+pub mod reading;
+pub mod scanning;
+pub mod writing;

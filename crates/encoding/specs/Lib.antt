@@ -1,0 +1,7 @@
+pub mod Widths
+pub mod Minis
+pub mod Differences
+pub mod Deltas
+pub mod Blocks
+pub mod Found
+pub mod ReadBack
