@@ -1,0 +1,56 @@
+-- The values of a dictionary: signed numbers of 32 bits, which ascend where it has no fault.
+use mathlib.Core.Path.{_≡_, refl, sym, ap, _∙_}
+use mathlib.Core.Bool.{Bool, true, false, not, _||_, true≢false}
+use mathlib.Core.List.{List}
+use Prim.Native.Nat.{ℕ, zero, suc, _+_, _-_, _*_, _/_, _%_, _≤_, _<_}
+use native.Mathlib.Omega.{arith}
+use lib.Dec.{ltb, eqb}
+use lib.IntN.{ℤ, pos}
+use lib.ListN.{length, take, drop, drop-of-length-le}
+use lib.Signed.{leZ}
+use borrow.Author.Tests.{ltb-true, ltb-false, eqb-true, not-false}
+use Rattle.rules.specs.Bits.{joined, number}
+use Rattle.rules.specs.Signed.{signed, Within}
+use Rattle.rules.specs.Answer.{faulty}
+use Rattle.rules.specs.Dictionary.{value, count, unordered, dictionaryFault}
+use Rattle.words.specs.Tests.{neither}
+use Rattle.words.specs.SomeBelow.{below-none}
+use Rattle.answers.specs.Laws.{not-faulty}
+use Rattle.signed.specs.Order.{leZ-refl, leZ-trans, leZ-total}
+use Rattle.signed.specs.Remainders.{signed-within}
+
+pub value-within : (dict : List ℕ) (k : ℕ) → Within 32 (value dict k)
+unfolding value
+value-within dict k = signed-within 32 (number (take 4 (drop (4 * k) dict))) (omega arith)
+
+-- no bytes make 0
+pub value-past : (dict : List ℕ) (k : ℕ) → length dict ≤ 4 * k → value dict k ≡ pos 0
+unfolding value joined signed
+value-past dict k h = rw (drop-of-length-le dict {i = 4 * k} h)
+
+-- ---- a dictionary without a fault
+
+pub record Good (dict : List ℕ) : Type 0 where
+  pub whole : length dict % 4 ≡ 0
+  pub short : length dict ≤ 65536
+  pub ordered : unordered dict ≡ false
+
+pub good-dictionary : (dict : List ℕ) → dictionaryFault dict ≡ 0 → Good dict
+unfolding dictionaryFault
+good-dictionary dict e =
+    let f = neither (not (eqb (length dict % 4) 0) || ltb 65536 (length dict)) (unordered dict) (not-faulty _ 14 (λ z. omega arith) e) in
+    let g = neither (not (eqb (length dict % 4) 0)) (ltb 65536 (length dict)) (f .0) in
+    record { whole = eqb-true (length dict % 4) 0 (not-false _ (g .0)); short = ltb-false 65536 (length dict) (g .1); ordered = f .1 }
+
+-- a later value is no smaller
+pub ascends : (dict : List ℕ) → unordered dict ≡ false → (j k : ℕ) → j ≤ k → k < count dict → leZ (value dict j) (value dict k) ≡ true
+unfolding unordered
+ascends dict e j zero l h = let z : j ≡ 0 = omega arith in rw z (leZ-refl (value dict 0))
+ascends dict e j (suc k) l h = go (λ m. ascends dict e j k m (omega arith)) (ltb k j) refl
+  where
+    next : leZ (value dict k) (value dict (suc k)) ≡ true
+    next = leZ-total (value dict (suc k)) (value dict k) (below-none (count dict - 1) (λ i. leZ (value dict (suc i)) (value dict i)) e k (omega arith))
+
+    go : (j ≤ k → leZ (value dict j) (value dict k) ≡ true) → (t : Bool) → ltb k j ≡ t → leZ (value dict j) (value dict (suc k)) ≡ true
+    go before true f = let z : j ≡ suc k = omega (arith, ltb-true k j f) in rw z (leZ-refl (value dict (suc k)))
+    go before false f = leZ-trans (value dict j) (value dict k) (value dict (suc k)) (before (ltb-false k j f)) next

@@ -1,0 +1,93 @@
+// Each run of an index page fills its own places with the values that its indexes stand for.
+ghost use mathlib.Core.Path.{_≡_};
+ghost use Prim.Native.Nat.{_+_, _*_, _%_, _≤_};
+ghost use lib.IntN.{ℤ};
+ghost use lib.ListN.{length};
+ghost use Rattle.rules.specs.Bits.{ceil, field, entry, put, tabulate};
+ghost use Rattle.rules.specs.Bits.Order.{lowFirst};
+ghost use Rattle.rules.specs.Dictionary.{value};
+ghost use Rattle.streams.specs.Placed.{placed};
+use crate::values::value_any;
+use rules::Run;
+use runs::reading::run_at;
+use words::counts::below;
+use words::entries::entry_any;
+
+// One value into the first m places.
+fn fill(places: &mut [i32], m: usize, value: i32)
+    requires { ⌜ m ≤ length (now places) ⌝ }
+    ensures { λ _. ⌜ now (places .exit) ≡ put (now (places .entry)) 0 (tabulate m (λ _. value)) ⌝ }
+{
+    let mut i: usize = 0;
+    while i < m {
+        places[i] = value;
+        i += 1;
+    }
+}
+
+// The values of the first m indexes of a body, into the first m places.
+fn look_up(dict: &[u8], body: &[u8], w: u32, m: usize, places: &mut [i32])
+    requires { ⌜ (length (now dict) % 4 ≡ 0) × (w ≤ 32) × (m ≤ 16384) × (m ≤ length (now places)) ⌝ }
+    ensures { λ _. ⌜ now (places .exit) ≡ put (now (places .entry)) 0 (tabulate m (λ k. value (now (dict .entry)) (entry lowFirst (now (body .entry)) w k))) ⌝ }
+{
+    let mut i: usize = 0;
+    while i < m {
+        places[i] = value_any(dict, entry_any(body, i * w as usize, w));
+        i += 1;
+    }
+}
+
+// A repeated run: m times the value of one index, into the places from place p on.
+fn place_same(dict: &[u8], index: u32, entries: &mut [i32], p: usize, m: usize)
+    requires { ⌜ (length (now dict) % 4 ≡ 0) × (p + m ≤ length (now entries)) ⌝ }
+    ensures { λ _. ⌜ now (entries .exit) ≡ put (now (entries .entry)) p (tabulate m (λ _. value (now (dict .entry)) index)) ⌝ }
+{
+    fill(&mut entries[p..], m, value_any(dict, index));
+}
+
+// A packed run, whose body begins at byte `start`: the values of its first m indexes, into the places from place p on.
+fn place_body(
+    dict: &[u8],
+    page: &[u8],
+    start: usize,
+    w: u32,
+    entries: &mut [i32],
+    p: usize,
+    m: usize,
+)
+    requires { ⌜ (length (now dict) % 4 ≡ 0) × (w ≤ 32) × (m ≤ 16384) × (start + ceil (m * w) 8 ≤ length (now page)) × (p + m ≤ length (now entries)) ⌝ }
+    ensures { λ _. ⌜ now (entries .exit) ≡ put (now (entries .entry)) p (tabulate m (λ k. value (now (dict .entry)) (field lowFirst (now (page .entry)) (8 * start + k * w) w))) ⌝ }
+{
+    look_up(dict, &page[start..], w, m, &mut entries[p..]);
+}
+
+// All runs, in turn; a fault ends the pass.
+pub fn look_up_runs(dict: &[u8], page: &[u8], w: u32, n: usize, entries: &mut [i32])
+    requires { ⌜ (length (now dict) % 4 ≡ 0) × (w ≤ 32) × (n ≤ 16384) × (n ≤ length (now entries)) ⌝ }
+    ensures { λ _. ⌜ now (entries .exit) ≡ placed (value (now (dict .entry))) w n (now (page .entry)) (now (entries .entry)) ⌝ }
+{
+    let mut at: usize = 0;
+    let mut i: usize = 0;
+    while i < n {
+        let run = run_at(page, at, w as usize, n - i);
+        match run {
+            Run::Repeated { count, value, next } => {
+                place_same(dict, value, entries, i, count);
+                i += count;
+                at = next;
+            }
+            Run::Packed {
+                groups,
+                start,
+                next,
+            } => {
+                place_body(dict, page, start, w, entries, i, below(8 * groups, n - i));
+                i += 8 * groups;
+                at = next;
+            }
+            Run::Refused(_) => {
+                return;
+            }
+        }
+    }
+}
