@@ -47,24 +47,20 @@ unfolding roomFault
 room-enough places need = not-below places need 4 (λ e. omega arith)
 
 -- 8
-entries-fit : (w : ℕ) (xs : List ℕ) → largeFault w xs ≡ 0 ↔ Small w xs
+pub entries-fit : (w : ℕ) (xs : List ℕ) → largeFault w xs ≡ 0 ↔ Small w xs
 unfolding largeFault
 entries-fit w xs = Iff·trans (no-fault (anyLarge w xs) 8 (λ e. omega arith)) (small-of w xs, large-of w xs)
 
--- when a call of the two bare layouts finds no fault, over the page's own fault and what its absence says
-module _ {Exact : Type 0} (page : ℕ) (exact : page ≡ 0 ↔ Exact) (w n : ℕ) where
-  pub scan-good : (op places : ℕ)
-      → (limitFault w n then operatorFault op then roomFault places (ceil n 8) then page) ≡ 0
-      ↔ (w ≤ 32 and n ≤ 16384) and op ≤ 7 and ceil n 8 ≤ places and Exact
-  scan-good op places =
-      neither _ _ (limits-kept w n) (neither _ _ (operator-known op) (neither _ _ (room-enough places (ceil n 8)) exact))
+-- when a call finds no fault, over the faults of the arguments' limits, of the page and of the entries, and what their absence says
+module _ {Kept Exact : Type 0} (limits page : ℕ) (kept : limits ≡ 0 ↔ Kept) (exact : page ≡ 0 ↔ Exact) (n places : ℕ) where
+  pub scan-good : (op : ℕ)
+      → (limits then operatorFault op then roomFault places (ceil n 8) then page) ≡ 0
+      ↔ Kept and op ≤ 7 and ceil n 8 ≤ places and Exact
+  scan-good op = neither _ _ kept (neither _ _ (operator-known op) (neither _ _ (room-enough places (ceil n 8)) exact))
 
-  pub unpack-good : (places : ℕ)
-      → (limitFault w n then roomFault places n then page) ≡ 0
-      ↔ (w ≤ 32 and n ≤ 16384) and n ≤ places and Exact
-  unpack-good places = neither _ _ (limits-kept w n) (neither _ _ (room-enough places n) exact)
+  pub unpack-good : (limits then roomFault places n then page) ≡ 0 ↔ Kept and n ≤ places and Exact
+  unpack-good = neither _ _ kept (neither _ _ (room-enough places n) exact)
 
-pub pack-good : (xs : List ℕ) (w places need : ℕ)
-    → (limitFault w (length xs) then largeFault w xs then roomFault places need) ≡ 0
-    ↔ (w ≤ 32 and length xs ≤ 16384) and Small w xs and need ≤ places
-pack-good xs w places need = neither _ _ (limits-kept w (length xs)) (neither _ _ (entries-fit w xs) (room-enough places need))
+pub pack-good : {Kept Fit : Type 0} (limits entries : ℕ) → (limits ≡ 0 ↔ Kept) → (entries ≡ 0 ↔ Fit) → (places need : ℕ)
+    → (limits then entries then roomFault places need) ≡ 0 ↔ Kept and Fit and need ≤ places
+pack-good limits entries kept fit places need = neither _ _ kept (neither _ _ fit (room-enough places need))

@@ -10,24 +10,27 @@ use Rattle.rules.specs.Horizontal as Horizontal
 use Rattle.packing.specs.Large.{small-of, large-of}
 use Rattle.packing.specs.Packed.{length-packed}
 use Rattle.packing.specs.RoundTrip.{entries-small, unpack-packed, unused-packed, pack-unpacked}
-use Rattle.promises.specs.Bare.{Layout, scans, unpacks, packs}
+use Rattle.promises.specs.Layouts.{Layout, scans, unpacks}
+use Rattle.promises.specs.Writers.{Writer, packs}
+use Rattle.promises.specs.Unsigned.{unsigned, unsigned-writer}
+use Rattle.promises.specs.Bare.{Bare}
 use Rattle.promises.specs.HorizontalFaults.{Exact, exact, page-exact}
 
-abbrev pub horizontal : Layout
-horizontal =
+abbrev pub horizontal : Layout ℕ ℕ
+horizontal = unsigned (Horizontal.pageFault lowFirst) Exact page-exact (λ page w n. entry lowFirst page w)
+
+abbrev pub writer : Writer horizontal
+writer =
+    unsigned-writer _ _ page-exact (λ page w n. entry lowFirst page w)
+    (Horizontal.packed lowFirst) (λ w xs. Horizontal.pageBytes w (length xs)) (length-packed lowFirst)
+    (λ w xs few small. exact (Horizontal.packed lowFirst w xs) w (length xs) .0 (length-packed lowFirst w xs, unused-packed w xs (large-of w xs small)))
+    (λ w xs few small. unpack-packed w xs (large-of w xs small))
+
+abbrev pub bare : Bare horizontal writer
+bare =
     record {
-      fault = Horizontal.pageFault lowFirst;
-      Exact = Exact;
-      exact = page-exact;
-      entry = entry lowFirst;
-      packed = Horizontal.packed lowFirst;
-      places = Horizontal.pageBytes;
       bits = 8;
-      length-exact = λ page w n good. good .all-bytes;
-      length-packed = length-packed lowFirst;
-      packed-exact = λ w xs small. exact (Horizontal.packed lowFirst w xs) w (length xs) .0 (length-packed lowFirst w xs, unused-packed w xs (large-of w xs small));
-      packed-entries = λ w xs small. unpack-packed w xs (large-of w xs small);
-      entries-small = λ w n page. small-of w _ (entries-small w n page);
+      entries-fit = λ w n page. small-of w _ (entries-small w n page);
       entries-packed = λ w n page bytes good. let e = exact page w n .1 good in pack-unpacked w n page bytes (e .0) (e .1);
     }
 
@@ -39,6 +42,6 @@ pub unpack-is : (page : List ℕ) (w n : ℕ) (before : List ℕ) → Horizontal
 unfolding Horizontal.unpack
 unpack-is page w n before = refl
 
-pub pack-is : (entries : List ℕ) (w : ℕ) (before : List ℕ) → Horizontal.pack lowFirst entries w before ≡ packs horizontal entries w before
+pub pack-is : (entries : List ℕ) (w : ℕ) (before : List ℕ) → Horizontal.pack lowFirst entries w before ≡ packs horizontal writer entries w before
 unfolding Horizontal.pack
 pack-is entries w before = refl

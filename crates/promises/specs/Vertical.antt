@@ -7,24 +7,27 @@ use lib.ListN.{length}
 use Rattle.rules.specs.Vertical as Vertical
 use Rattle.packing.specs.Large.{small-of, large-of}
 use Rattle.lanes.specs.Columns.{length-packed, entries-small, unpack-packed, unused-packed, pack-unpacked}
-use Rattle.promises.specs.Bare.{Layout, scans, unpacks, packs}
+use Rattle.promises.specs.Layouts.{Layout, scans, unpacks}
+use Rattle.promises.specs.Writers.{Writer, packs}
+use Rattle.promises.specs.Unsigned.{unsigned, unsigned-writer}
+use Rattle.promises.specs.Bare.{Bare}
 use Rattle.promises.specs.VerticalFaults.{Exact, exact, column-exact}
 
-abbrev pub vertical : Layout
-vertical =
+abbrev pub vertical : Layout ℕ ℕ
+vertical = unsigned Vertical.pageFault Exact column-exact (λ words w n. Vertical.entry words w)
+
+abbrev pub writer : Writer vertical
+writer =
+    unsigned-writer _ _ column-exact (λ words w n. Vertical.entry words w)
+    Vertical.packed (λ w xs. Vertical.pageWords w (length xs)) length-packed
+    (λ w xs few small. exact (Vertical.packed w xs) w (length xs) .0 (length-packed w xs, unused-packed w xs (large-of w xs small)))
+    (λ w xs few small. unpack-packed w xs (large-of w xs small))
+
+abbrev pub bare : Bare vertical writer
+bare =
     record {
-      fault = Vertical.pageFault;
-      Exact = Exact;
-      exact = column-exact;
-      entry = Vertical.entry;
-      packed = Vertical.packed;
-      places = Vertical.pageWords;
       bits = 64;
-      length-exact = λ words w n good. good .all-words;
-      length-packed = length-packed;
-      packed-exact = λ w xs small. exact (Vertical.packed w xs) w (length xs) .0 (length-packed w xs, unused-packed w xs (large-of w xs small));
-      packed-entries = λ w xs small. unpack-packed w xs (large-of w xs small);
-      entries-small = λ w n words. small-of w _ (entries-small w n words);
+      entries-fit = λ w n words. small-of w _ (entries-small w n words);
       entries-packed = λ w n words fits good. let e = exact words w n .1 good in pack-unpacked w n words fits (e .0) (e .1);
     }
 
@@ -36,6 +39,6 @@ pub unpack-is : (words : List ℕ) (w n : ℕ) (before : List ℕ) → Vertical.
 unfolding Vertical.unpack
 unpack-is words w n before = refl
 
-pub pack-is : (entries : List ℕ) (w : ℕ) (before : List ℕ) → Vertical.pack entries w before ≡ packs vertical entries w before
+pub pack-is : (entries : List ℕ) (w : ℕ) (before : List ℕ) → Vertical.pack entries w before ≡ packs vertical writer entries w before
 unfolding Vertical.pack
 pack-is entries w before = refl

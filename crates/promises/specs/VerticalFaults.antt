@@ -10,7 +10,8 @@ use lib.ListN.{length}
 use borrow.Author.Tests.{le-ltb}
 use Rattle.rules.specs.Bits.{ceil}
 use Rattle.rules.specs.Vertical.{pageWords, entry, unused, pageFault}
-use Rattle.lanes.specs.Unused.{none-below, unused-zero}
+use Rattle.words.specs.SomeBelow.{none-below}
+use Rattle.lanes.specs.Unused.{unused-zero}
 use Rattle.promises.specs.Faults.{_and_, neither, no-fault, not-below}
 
 pub record Exact (words : List ℕ) (w n : ℕ) : Type 0 where

@@ -1,0 +1,65 @@
+-- Delta pages are a layout of signed entries of W bits with a writer, and their three contracts are its. What the writer writes is read back.
+use mathlib.Core.Path.{_≡_, refl}
+use mathlib.Core.List.{List}
+use Prim.Native.Nat.{ℕ, _<_, _≤_}
+use lib.IntN.{ℤ, pos}
+use lib.ListN.{length, take, getD}
+use Rattle.rules.specs.Bits.{ceil, put}
+use Rattle.rules.specs.Comparison.{holds}
+use Rattle.rules.specs.Answer.{_then_, operatorFault, roomFault, accepted, scanned}
+use Rattle.rules.specs.Answer.Outcome.{outcome}
+use Rattle.rules.specs.Delta as Delta
+use Rattle.rules.specs.DeltaWriter as DeltaWriter
+use Rattle.rules.specs.declared.Answer.{Answer}
+use Rattle.encoding.specs.Deltas.{AllWithin, no-wide-fault}
+use Rattle.encoding.specs.ReadBack.{fault-back, entries-back}
+use Rattle.promises.specs.Layouts.{Layout, scans, unpacks}
+use Rattle.promises.specs.Writers.{Writer, packs, packed-unpacks, packed-scans}
+use Rattle.promises.specs.Signed.{signed}
+
+abbrev pub delta : ℕ → Layout (Unit {0}) ℤ
+delta W = signed (λ page k n. Delta.pageFault (Delta.read W n page)) (λ page k n. Delta.pageEntry W (Delta.read W n page))
+
+-- every list fits: 17 never arises. Entries are read back where they are signed numbers of W bits, as those lent are
+abbrev pub writer : (W : ℕ) → 0 < W → Writer (delta W)
+writer W some =
+    record {
+      unfit = λ k xs. DeltaWriter.wideFault W xs;
+      Fit = λ k xs. Unit {0};
+      fit = λ k xs. (λ e. tt, λ e. no-wide-fault W some xs);
+      packed = λ k xs. DeltaWriter.page W xs;
+      places = λ k xs. length (DeltaWriter.page W xs);
+      length-packed = λ k xs. refl;
+      Held = AllWithin W;
+      packed-exact = λ k xs few fit held. fault-back W some xs few held;
+      packed-entries = λ k xs few fit held. entries-back W some xs few held;
+    }
+
+pub scan-is : (W : ℕ) (page : List ℕ) (n op : ℕ) (a b : ℤ) (before : List ℕ) → Delta.scan W page n op a b before ≡ scans (delta W) page tt n op a b before
+unfolding Delta.scan
+scan-is W page n op a b before = refl
+
+pub unpack-is : (W : ℕ) (page : List ℕ) (n : ℕ) (before : List ℤ) → Delta.unpack W page n before ≡ unpacks (delta W) page tt n before
+unfolding Delta.unpack
+unpack-is W page n before = refl
+
+pub pack-is : (W : ℕ) (some : 0 < W) (entries : List ℤ) (before : List ℕ) → DeltaWriter.pack W entries before ≡ packs (delta W) (writer W some) entries tt before
+unfolding DeltaWriter.pack
+pack-is W some entries before = refl
+
+-- ---- what the writer wrote is read back
+
+module _ (W : ℕ) (some : 0 < W) (entries : List ℤ) (before : List ℕ) {page : List ℕ} {r : Answer}
+    (contract : outcome r page ≡ DeltaWriter.pack W entries before) (ok : r .code ≡ 0) (held : AllWithin W entries) where
+  -- the bytes written unpack to the entries, in any places that have room
+  pub written-reads-back : (places : List ℤ) → length entries ≤ length places
+      → Delta.unpack W (take (r .number) page) (length entries) places ≡ outcome (accepted (length entries)) (put places 0 entries)
+  unfolding Delta.unpack DeltaWriter.pack
+  written-reads-back = packed-unpacks (delta W) (writer W some) entries tt before contract ok held
+
+  -- and a scan of them has the bitmap of the entries
+  pub written-scans : (op : ℕ) (a b : ℤ) (bitmap : List ℕ)
+      → Delta.scan W (take (r .number) page) (length entries) op a b bitmap
+      ≡ scanned (operatorFault op then roomFault (length bitmap) (ceil (length entries) 8)) (length entries) (λ i. holds op a b (getD entries i (pos 0))) bitmap
+  unfolding Delta.scan DeltaWriter.pack
+  written-scans op a b bitmap = packed-scans (delta W) (writer W some) entries tt before contract ok held op a b (pos 0) bitmap
