@@ -1,5 +1,5 @@
 // A comparison: an operator number and its two constants, the scan by it, and how it reads.
-use crate::line::Line;
+use lines::Line;
 use rules::Answer;
 
 pub struct Comparison {

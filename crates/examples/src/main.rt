@@ -1,12 +1,11 @@
 // Document 01's examples of horizontal pages, packed, read and scanned by the proved functions.
 mod comparisons;
-mod line;
 mod pages;
 mod refusals;
 
 use comparisons::Comparison;
-use line::say;
-use line::topic;
+use lines::say;
+use lines::topic;
 use pages::made;
 use pages::operators;
 use pages::scanned;

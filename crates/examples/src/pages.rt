@@ -1,8 +1,8 @@
 // A good page: what it is packed from, what it reads as, and what comparisons select of it.
 use crate::comparisons::Comparison;
-use crate::line::Line;
 use horizontal::reading::unpack;
 use horizontal::writing::pack;
+use lines::Line;
 
 // Where a row's list begins, with a blank, and what is said behind it.
 const LIST: usize = 19;

@@ -1,8 +1,8 @@
 // What is refused: the call, its code, and what the output still holds.
 use crate::comparisons::Comparison;
-use crate::line::Line;
-use crate::line::topic;
 use horizontal::writing::pack;
+use lines::Line;
+use lines::topic;
 use rules::Answer;
 
 // Where a row's code and its output stand.

@@ -1,8 +1,8 @@
--- `examples::line::Line::bytes` is safe and ends: each turn leaves fewer bytes.
+-- `lines::Line::bytes` is safe and ends: each turn leaves fewer bytes.
 use Prim.Native.Nat.{_-_}
 use borrow.Author.Needs.{needs}
-use Rattle.examples.proofs.line.Line.bytes.Statement.{statement}
-use Rattle.examples.proofs.line.Line.bytes.Tie as tie
+use Rattle.lines.proofs.Line.bytes.Statement.{statement}
+use Rattle.lines.proofs.Line.bytes.Tie as tie
 
 abbrev Inv-loop : tie.InvT-loop
 Inv-loop list n line₀ i₀ line i = Unit {0}

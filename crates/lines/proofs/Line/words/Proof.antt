@@ -1,9 +1,9 @@
--- `examples::line::Line::words` is safe and ends: each turn leaves fewer bytes.
+-- `lines::Line::words` is safe and ends: each turn leaves fewer bytes.
 use Prim.Native.Nat.{_-_}
 use lib.ListN.{length}
 use borrow.Author.Needs.{needs}
-use Rattle.examples.proofs.line.Line.words.Statement.{statement}
-use Rattle.examples.proofs.line.Line.words.Tie as tie
+use Rattle.lines.proofs.Line.words.Statement.{statement}
+use Rattle.lines.proofs.Line.words.Tie as tie
 
 abbrev Inv-loop : tie.InvT-loop
 Inv-loop words line₀ i₀ line i = Unit {0}
