@@ -1,9 +1,10 @@
 /*
  * Cahermisk: compares, unpacks and packs the columns of a packed log.
  *
- * Every function answers with a code and a number, for any bytes and any
- * numbers it is given. Code 0 is acceptance. Every other code refuses: its
- * number is 0, and nothing that was lent has changed.
+ * Every function answers with a code and a number (cahermisk_runs_next with
+ * several), for any bytes and any numbers it is given. Code 0 is acceptance.
+ * Every other code refuses: its number is 0, and nothing that was lent has
+ * changed.
  *
  * What a caller must keep to, and all that is asked:
  *  - a pointer is valid for the length given beside it, aligned for its type,
@@ -33,14 +34,21 @@ extern "C" {
 /* The code of an answer. */
 enum cahermisk_code {
     CAHERMISK_ACCEPTED = 0,
-    CAHERMISK_WIDTH_ABOVE_32 = 1,       /* width above 32 */
-    CAHERMISK_TOO_MANY_ENTRIES = 2,     /* more than 16,384 entries */
-    CAHERMISK_OPERATOR_ABOVE_7 = 3,     /* operator above 7 */
-    CAHERMISK_OUTPUT_TOO_SHORT = 4,     /* output too short */
-    CAHERMISK_INPUT_ENDS_TOO_EARLY = 5, /* input ends too early */
-    CAHERMISK_INPUT_LEFT_OVER = 6,      /* input left over */
-    CAHERMISK_UNUSED_BITS_NOT_0 = 7,    /* unused bits not 0 */
-    CAHERMISK_VALUE_TOO_LARGE = 8       /* entry not below 2^width */
+    CAHERMISK_WIDTH_ABOVE_32 = 1,        /* width above 32 */
+    CAHERMISK_TOO_MANY_ENTRIES = 2,      /* more than 16,384 entries */
+    CAHERMISK_OPERATOR_ABOVE_7 = 3,      /* operator above 7 */
+    CAHERMISK_OUTPUT_TOO_SHORT = 4,      /* output too short */
+    CAHERMISK_INPUT_ENDS_TOO_EARLY = 5,  /* input ends too early */
+    CAHERMISK_INPUT_LEFT_OVER = 6,       /* input left over */
+    CAHERMISK_UNUSED_BITS_NOT_0 = 7,     /* unused bits not 0 */
+    CAHERMISK_VALUE_TOO_LARGE = 8,       /* entry or run value not below 2^width */
+    CAHERMISK_NUMBER_BEYOND_32_BITS = 9, /* variable-length number beyond 32 bits */
+    CAHERMISK_RUN_OF_LENGTH_0 = 10,      /* run of length 0 */
+    CAHERMISK_RUN_PAST_N = 11,           /* run goes too far past n, or n are covered */
+    CAHERMISK_DELTA_SHAPE = 12,          /* delta shape */
+    CAHERMISK_DELTA_COUNT_NOT_N = 13,    /* delta count is not n */
+    CAHERMISK_UNNEEDED_WIDTH_NOT_0 = 16, /* width byte of an unneeded miniblock not 0 */
+    CAHERMISK_MINIBLOCK_TOO_WIDE = 17    /* delta writer: it needs more than 32 bits */
 };
 
 /*
@@ -61,9 +69,9 @@ enum cahermisk_operator {
 };
 
 /*
- * The answer of every function. On acceptance the number is, for a scan, how
- * many bits of the bitmap are set; for unpack, n; for pack, the length written,
- * in bytes or, for bit planes, in words.
+ * The answer of every function but cahermisk_runs_next. On acceptance the number
+ * is, for a scan, how many bits of the bitmap are set; for unpack, n; for pack,
+ * the length written, in bytes or, for bit planes, in words.
  */
 typedef struct {
     uint32_t code;
@@ -197,6 +205,201 @@ cahermisk_answer cahermisk_vertical_unpack(const uint64_t *words, size_t words_l
 cahermisk_answer cahermisk_vertical_pack(const uint32_t *entries, size_t entries_len,
                                          uint32_t width,
                                          uint64_t *words, size_t words_len);
+
+/* ---- Run streams ------------------------------------------------------- */
+/*
+ * Entries are unsigned numbers of `width` bits, 0 to 32, in runs laid end to end:
+ * the RLE/bit-packing hybrid. A run starts with a header, a variable-length number
+ * h: seven bits a byte, lowest first, the top bit set where more bytes follow, at
+ * most five bytes and 32 bits.
+ *  - h even: h / 2 equal entries. Their value follows in ceil(width / 8) bytes,
+ *    low byte first. The run may not pass n.
+ *  - h odd: (h - 1) / 2 groups of 8 entries. Each group follows as `width` bytes,
+ *    packed as a horizontal page. The run may pass n by at most 7 entries, which
+ *    may be anything.
+ * No run has length 0. The stream ends with the run that reaches n; with n = 0 it
+ * is empty.
+ *
+ * A stream's first fault in reading order is, for each run in turn, the first of
+ *   5  the page ends before the header does
+ *   9  the header is beyond 32 bits
+ *   10 the run has length 0
+ *   11 the run goes too far past n
+ *   5  the page ends before the value or the groups do
+ *   8  the value is not below 2^width
+ * and after the run that reaches n
+ *   6  the page goes on
+ */
+
+/*
+ * Compares each entry of a stream, and sets bit i of the bitmap exactly if entry i
+ * satisfies the comparison.
+ * Reads the page; writes the first CAHERMISK_BITMAP_BYTES(n) bytes of the bitmap,
+ * the unused bits of the last one as 0, and keeps the later bytes.
+ * Refuses with the first of these that holds:
+ *   1  width above 32
+ *   2  n above 16,384
+ *   3  op above 7
+ *   4  bitmap_len below CAHERMISK_BITMAP_BYTES(n)
+ *   then the stream's first fault in reading order
+ */
+cahermisk_answer cahermisk_runs_scan(const uint8_t *page, size_t page_len,
+                                     uint32_t width, size_t n,
+                                     uint32_t op, int64_t a, int64_t b,
+                                     uint8_t *bitmap, size_t bitmap_len);
+
+/*
+ * Writes the n entries of a stream to the first n places of `entries`, and keeps
+ * the other places.
+ * Refuses with the first of these that holds:
+ *   1  width above 32
+ *   2  n above 16,384
+ *   4  entries_len below n
+ *   then the stream's first fault in reading order
+ */
+cahermisk_answer cahermisk_runs_unpack(const uint8_t *page, size_t page_len,
+                                       uint32_t width, size_t n,
+                                       uint32_t *entries, size_t entries_len);
+
+/* The kind of a run. */
+enum cahermisk_kind {
+    CAHERMISK_REPEATED = 0, /* equal entries */
+    CAHERMISK_PACKED = 1    /* groups of 8 entries */
+};
+
+/*
+ * One run. On a refusal all but the code is 0.
+ */
+typedef struct {
+    uint32_t code;
+    uint32_t kind;
+    size_t length;   /* in entries, 8 a group, also where they pass n */
+    uint32_t value;  /* of a repeated run, else 0 */
+    size_t next;     /* the place in the page after the run */
+    size_t body_at;  /* a packed run's bytes are those from page + body_at on, */
+    size_t body_len; /* body_len of them, all in the page; else both are 0 */
+} cahermisk_run;
+
+/*
+ * Reads the run at a place of a stream of n entries, of which `covered` are before
+ * it. To read a stream run by run, begin with at = 0 and covered = 0; after each
+ * run, at is its `next` and covered grows by its `length`; the stream ends where n
+ * are covered.
+ * Refuses with the first of these that holds:
+ *   1  width above 32
+ *   2  n above 16,384
+ *   5  at above page_len
+ *   11 covered is n or above
+ *   then the run's first fault in reading order; never with 6
+ */
+cahermisk_run cahermisk_runs_next(const uint8_t *page, size_t page_len,
+                                  uint32_t width, size_t n,
+                                  size_t at, size_t covered);
+
+/*
+ * Bytes that are enough for the stream of any n entries of a width, within the
+ * limits: how many pack writes depends on the entries.
+ */
+#define CAHERMISK_RUNS_BYTES(width, n) (((size_t)(n) + 7) / 8 * ((size_t)(width) + 1))
+
+/*
+ * Packs all entries_len entries: writes their stream to the first bytes of the
+ * page, and keeps the later bytes. 8 or more equal entries from where a run may
+ * begin are one repeated run; other entries go into packed runs of at most 63
+ * groups, the last group filled with 0. Headers are shortest.
+ * Refuses with the first of these that holds:
+ *   1  width above 32
+ *   2  entries_len above 16,384
+ *   8  an entry is not below 2^width
+ *   4  page_len below the stream's length
+ */
+cahermisk_answer cahermisk_runs_pack(const uint32_t *entries, size_t entries_len,
+                                     uint32_t width,
+                                     uint8_t *page, size_t page_len);
+
+/* ---- Delta pages ------------------------------------------------------- */
+/*
+ * Entries are signed 32-bit numbers, kept as deltas from one to the next.
+ *
+ * A page starts with four variable-length numbers, as the headers of runs are:
+ * the block size, the miniblocks per block, the count of entries, and the first
+ * value. The block size is a multiple of 128 from 128 to 16,384; the miniblock
+ * count is at least 1 and divides it, and a miniblock has block size / miniblocks
+ * deltas, a multiple of 32. Signed numbers are zigzag: 0, -1, 1, -2, 2 .. are
+ * spelled 0, 1, 2, 3, 4 ..
+ *
+ * Then come ceil((n - 1) / block size) blocks, none for n = 0 or 1. A block is a
+ * signed number, the smallest delta; a width byte for each miniblock, 0 to 32;
+ * and the miniblocks' bodies, each packed as a horizontal page of its width and
+ * always full: what lies there past entry n - 1 may be anything. A miniblock is
+ * needed if it holds the delta of an entry below n; the others have width byte 0
+ * and no body.
+ *
+ * Entry 0 is the first value. Each later entry is the one before plus its block's
+ * smallest delta plus its packed number, wrapping in 32 bits. The smallest delta
+ * need not be the least, and a width may be wider than needed.
+ *
+ * A page's first fault in reading order is the first of
+ *   5  the page ends before the header does
+ *   9  a number of the header is beyond 32 bits
+ *   12 block size and miniblock count are not as said
+ *   13 the count is not n
+ * and for each block in turn
+ *   5  the page ends before the smallest delta does
+ *   9  the smallest delta is beyond 32 bits
+ *   for each width byte in turn
+ *      5  it is missing
+ *      1  its miniblock is needed and the width is above 32
+ *      16 its miniblock is not needed and the byte is not 0
+ *   5  the page ends before the bodies do
+ * and after the last block
+ *   6  the page goes on
+ */
+
+/*
+ * Compares each entry of a page, and sets bit i of the bitmap exactly if entry i
+ * satisfies the comparison.
+ * Reads the page; writes the first CAHERMISK_BITMAP_BYTES(n) bytes of the bitmap,
+ * the unused bits of the last one as 0, and keeps the later bytes.
+ * Refuses with the first of these that holds:
+ *   2  n above 16,384
+ *   3  op above 7
+ *   4  bitmap_len below CAHERMISK_BITMAP_BYTES(n)
+ *   then the page's first fault in reading order
+ */
+cahermisk_answer cahermisk_delta_scan(const uint8_t *page, size_t page_len, size_t n,
+                                      uint32_t op, int64_t a, int64_t b,
+                                      uint8_t *bitmap, size_t bitmap_len);
+
+/*
+ * Writes the n entries of a page to the first n places of `entries`, and keeps
+ * the other places.
+ * Refuses with the first of these that holds:
+ *   2  n above 16,384
+ *   4  entries_len below n
+ *   then the page's first fault in reading order
+ */
+cahermisk_answer cahermisk_delta_unpack(const uint8_t *page, size_t page_len, size_t n,
+                                        int32_t *entries, size_t entries_len);
+
+/*
+ * Bytes that are enough for the page of any n entries, within the limits: how
+ * many pack writes depends on the entries.
+ */
+#define CAHERMISK_DELTA_BYTES(n) (11 + ((size_t)(n) + 126) / 128 * 521)
+
+/*
+ * Packs all entries_len entries: writes their page to the first bytes of the page
+ * lent, and keeps the later bytes. Blocks are of 128 deltas in 4 miniblocks, the
+ * smallest delta is the least, widths are the least, numbers are shortest, and
+ * bodies are filled with 0.
+ * Refuses with the first of these that holds:
+ *   2  entries_len above 16,384
+ *   17 a miniblock needs more than 32 bits (of 32-bit entries none ever does)
+ *   4  page_len below the page's length
+ */
+cahermisk_answer cahermisk_delta_pack(const int32_t *entries, size_t entries_len,
+                                      uint8_t *page, size_t page_len);
 
 #ifdef __cplusplus
 }

@@ -1,6 +1,8 @@
 //! The C functions of the library. All unsafe code of the package stands here.
 #![allow(unsafe_code)]
 
+pub(crate) mod delta;
+
 use crate::{Comparison, Refusal};
 
 /// `cahermisk_answer` of the C header.
@@ -14,71 +16,100 @@ struct Answer {
 impl Answer {
     /// The number of an accepted call, or why it was refused.
     fn result(self) -> Result<usize, Refusal> {
-        match Refusal::from_code(self.code) {
-            None => Ok(self.number as usize),
-            Some(refusal) => Err(refusal),
-        }
+        judged(self.code, self.number as usize)
     }
 }
 
+/// What a call gives if its code is acceptance, or why it was refused.
+fn judged<T>(code: u32, given: T) -> Result<T, Refusal> {
+    match Refusal::from_code(code) {
+        None => Ok(given),
+        Some(refusal) => Err(refusal),
+    }
+}
+
+/// `cahermisk_run` of the C header.
+#[repr(C)]
+pub(crate) struct RunAnswer {
+    code: u32,
+    kind: u32,
+    pub(crate) length: usize,
+    pub(crate) value: u32,
+    pub(crate) next: usize,
+    pub(crate) body_at: usize,
+    pub(crate) body_len: usize,
+}
+
+impl RunAnswer {
+    /// `CAHERMISK_PACKED` of the C header.
+    const PACKED: u32 = 1;
+
+    pub(crate) fn is_packed(&self) -> bool {
+        self.kind == RunAnswer::PACKED
+    }
+}
+
+/// Declares the C functions of a layout whose pages are lists of a type.
+macro_rules! functions_of_a_layout {
+    ($scan:ident, $unpack:ident, $pack:ident: $unit:ty) => {
+        extern "C" {
+            fn $scan(
+                page: *const $unit,
+                page_len: usize,
+                width: u32,
+                n: usize,
+                op: u32,
+                a: i64,
+                b: i64,
+                bitmap: *mut u8,
+                bitmap_len: usize,
+            ) -> Answer;
+
+            fn $unpack(
+                page: *const $unit,
+                page_len: usize,
+                width: u32,
+                n: usize,
+                entries: *mut u32,
+                entries_len: usize,
+            ) -> Answer;
+
+            fn $pack(
+                entries: *const u32,
+                entries_len: usize,
+                width: u32,
+                page: *mut $unit,
+                page_len: usize,
+            ) -> Answer;
+        }
+    };
+}
+
+functions_of_a_layout!(
+    cahermisk_horizontal_scan,
+    cahermisk_horizontal_unpack,
+    cahermisk_horizontal_pack: u8
+);
+functions_of_a_layout!(
+    cahermisk_vertical_scan,
+    cahermisk_vertical_unpack,
+    cahermisk_vertical_pack: u64
+);
+functions_of_a_layout!(
+    cahermisk_runs_scan,
+    cahermisk_runs_unpack,
+    cahermisk_runs_pack: u8
+);
+
 extern "C" {
-    fn cahermisk_horizontal_scan(
+    fn cahermisk_runs_next(
         page: *const u8,
         page_len: usize,
         width: u32,
         n: usize,
-        op: u32,
-        a: i64,
-        b: i64,
-        bitmap: *mut u8,
-        bitmap_len: usize,
-    ) -> Answer;
-
-    fn cahermisk_horizontal_unpack(
-        page: *const u8,
-        page_len: usize,
-        width: u32,
-        n: usize,
-        entries: *mut u32,
-        entries_len: usize,
-    ) -> Answer;
-
-    fn cahermisk_horizontal_pack(
-        entries: *const u32,
-        entries_len: usize,
-        width: u32,
-        page: *mut u8,
-        page_len: usize,
-    ) -> Answer;
-
-    fn cahermisk_vertical_scan(
-        words: *const u64,
-        words_len: usize,
-        width: u32,
-        n: usize,
-        op: u32,
-        a: i64,
-        b: i64,
-        bitmap: *mut u8,
-        bitmap_len: usize,
-    ) -> Answer;
-
-    fn cahermisk_vertical_unpack(
-        words: *const u64,
-        words_len: usize,
-        width: u32,
-        n: usize,
-        entries: *mut u32,
-        entries_len: usize,
-    ) -> Answer;
-
-    fn cahermisk_vertical_pack(
-        entries: *const u32,
-        entries_len: usize,
-        width: u32,
-        words: *mut u64,
-        words_len: usize,
-    ) -> Answer;
+        at: usize,
+        covered: usize,
+    ) -> RunAnswer;
 }
 
 type Scan<T> =
@@ -86,27 +117,33 @@ type Scan<T> =
 type Unpack<T> = unsafe extern "C" fn(*const T, usize, u32, usize, *mut u32, usize) -> Answer;
 type Pack<T> = unsafe extern "C" fn(*const u32, usize, u32, *mut T, usize) -> Answer;
 
-/// The C functions of a bare layout, whose pages are lists of `T`. There are no others than those below,
+/// The C functions of a layout whose pages are lists of `T`. There are no others than those below,
 /// and of the places lent to them they ask what the header says.
-pub(crate) struct Bare<T> {
+pub(crate) struct Layout<T> {
     scan: Scan<T>,
     unpack: Unpack<T>,
     pack: Pack<T>,
 }
 
-pub(crate) const HORIZONTAL: Bare<u8> = Bare {
+pub(crate) const HORIZONTAL: Layout<u8> = Layout {
     scan: cahermisk_horizontal_scan,
     unpack: cahermisk_horizontal_unpack,
     pack: cahermisk_horizontal_pack,
 };
 
-pub(crate) const VERTICAL: Bare<u64> = Bare {
+pub(crate) const VERTICAL: Layout<u64> = Layout {
     scan: cahermisk_vertical_scan,
     unpack: cahermisk_vertical_unpack,
     pack: cahermisk_vertical_pack,
 };
 
-impl<T> Bare<T> {
+pub(crate) const RUNS: Layout<u8> = Layout {
+    scan: cahermisk_runs_scan,
+    unpack: cahermisk_runs_unpack,
+    pack: cahermisk_runs_pack,
+};
+
+impl<T> Layout<T> {
     pub(crate) fn scan(
         &self,
         page: &[T],
@@ -174,4 +211,17 @@ impl<T> Bare<T> {
         };
         answer.result()
     }
+}
+
+/// The run at a place of a page.
+pub(crate) fn next_run(
+    page: &[u8],
+    width: u32,
+    n: usize,
+    at: usize,
+    covered: usize,
+) -> Result<RunAnswer, Refusal> {
+    // SAFETY: the slice is valid for its length and not null. Nothing is asked of the other arguments.
+    let answer = unsafe { cahermisk_runs_next(page.as_ptr(), page.len(), width, n, at, covered) };
+    judged(answer.code, answer)
 }

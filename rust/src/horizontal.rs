@@ -14,7 +14,7 @@ fn page_len(width: usize, n: usize) -> usize {
 /// Compares the `n` entries of `page` and writes the selection to the first ceil(n / 8) bytes of
 /// `bitmap`; later bytes are kept. Gives the number of selected entries.
 ///
-#[doc = include_str!("bare/reading.md")]
+#[doc = include_str!("refusal/reading_bare.md")]
 ///
 /// # Examples
 ///
@@ -68,7 +68,7 @@ pub fn scan_to_bitmap(
 /// Writes the `n` entries of `page` to the first `n` places of `entries`; the others are kept.
 /// Gives `n`.
 ///
-#[doc = include_str!("bare/reading.md")]
+#[doc = include_str!("refusal/reading_bare.md")]
 ///
 /// # Examples
 ///
@@ -105,7 +105,7 @@ pub fn unpack_to_vec(page: &[u8], width: u32, n: usize) -> Result<Vec<u32>, Refu
 /// Packs all of `entries` to the front of `page`; the bytes after it are kept. Gives the number of
 /// bytes written, ceil(entries × width / 8).
 ///
-#[doc = include_str!("bare/packing.md")]
+#[doc = include_str!("refusal/packing.md")]
 ///
 /// # Examples
 ///

@@ -6,6 +6,8 @@
 //!
 //! - [`horizontal`]: bare horizontal pages, entries of 0 to 32 bits laid end to end.
 //! - [`vertical`]: bit planes, entries of 0 to 32 bits in groups of 64, one word for each bit.
+//! - [`runs`]: run streams, the RLE/bit-packing hybrid: equal entries once, others packed by eight.
+//! - [`delta`]: delta pages, signed 32-bit entries kept as deltas from one to the next.
 //!
 //! A [`Comparison`] is an [`Operator`] and two constants; a scan's result is a [`Bitmap`].
 //!
@@ -23,13 +25,15 @@
 #![warn(missing_docs)]
 #![deny(unsafe_code)]
 
-mod bare;
 mod bitmap;
 mod comparison;
+pub mod delta;
 mod ffi;
 pub mod horizontal;
+mod layout;
 mod operator;
 mod refusal;
+pub mod runs;
 pub mod vertical;
 
 pub use bitmap::Bitmap;

@@ -21,8 +21,22 @@ pub enum Refusal {
     InputLeftOver,
     /// 7: unused bits not 0.
     UnusedBitsNot0,
-    /// 8: entry not below 2^width.
+    /// 8: entry or run value not below 2^width.
     ValueTooLarge,
+    /// 9: variable-length number beyond 32 bits.
+    NumberBeyond32Bits,
+    /// 10: run of length 0.
+    RunOfLength0,
+    /// 11: run goes too far past n, or one run is asked for with n covered.
+    RunPastN,
+    /// 12: delta shape.
+    DeltaShape,
+    /// 13: delta count is not n.
+    DeltaCountNotN,
+    /// 16: width byte of an unneeded miniblock not 0.
+    UnneededWidthNot0,
+    /// 17: delta writer: a miniblock needs more than 32 bits.
+    MiniblockTooWide,
     /// A code that this package has no name for, from a library newer than the package.
     Unknown(u32),
 }
@@ -47,6 +61,13 @@ impl Refusal {
             6 => Refusal::InputLeftOver,
             7 => Refusal::UnusedBitsNot0,
             8 => Refusal::ValueTooLarge,
+            9 => Refusal::NumberBeyond32Bits,
+            10 => Refusal::RunOfLength0,
+            11 => Refusal::RunPastN,
+            12 => Refusal::DeltaShape,
+            13 => Refusal::DeltaCountNotN,
+            16 => Refusal::UnneededWidthNot0,
+            17 => Refusal::MiniblockTooWide,
             other => Refusal::Unknown(other),
         })
     }
@@ -62,6 +83,13 @@ impl Refusal {
             Refusal::InputLeftOver => 6,
             Refusal::UnusedBitsNot0 => 7,
             Refusal::ValueTooLarge => 8,
+            Refusal::NumberBeyond32Bits => 9,
+            Refusal::RunOfLength0 => 10,
+            Refusal::RunPastN => 11,
+            Refusal::DeltaShape => 12,
+            Refusal::DeltaCountNotN => 13,
+            Refusal::UnneededWidthNot0 => 16,
+            Refusal::MiniblockTooWide => 17,
             Refusal::Unknown(code) => code,
         }
     }
@@ -77,7 +105,14 @@ impl fmt::Display for Refusal {
             Refusal::InputEndsTooEarly => "input ends too early",
             Refusal::InputLeftOver => "input left over",
             Refusal::UnusedBitsNot0 => "unused bits not 0",
-            Refusal::ValueTooLarge => "entry not below 2^width",
+            Refusal::ValueTooLarge => "entry or run value not below 2^width",
+            Refusal::NumberBeyond32Bits => "variable-length number beyond 32 bits",
+            Refusal::RunOfLength0 => "run of length 0",
+            Refusal::RunPastN => "run goes too far past n, or one run is asked for with n covered",
+            Refusal::DeltaShape => "delta shape",
+            Refusal::DeltaCountNotN => "delta count is not n",
+            Refusal::UnneededWidthNot0 => "width byte of an unneeded miniblock not 0",
+            Refusal::MiniblockTooWide => "delta writer: a miniblock needs more than 32 bits",
             Refusal::Unknown(code) => return write!(f, "refused with code {code}"),
         })
     }

@@ -15,7 +15,7 @@ fn words_len(width: usize, n: usize) -> usize {
 /// Compares the `n` entries of `words` and writes the selection to the first ceil(n / 8) bytes of
 /// `bitmap`; later bytes are kept. Gives the number of selected entries.
 ///
-#[doc = include_str!("bare/reading.md")]
+#[doc = include_str!("refusal/reading_bare.md")]
 ///
 /// # Examples
 ///
@@ -70,7 +70,7 @@ pub fn scan_to_bitmap(
 /// Writes the `n` entries of `words` to the first `n` places of `entries`; the others are kept.
 /// Gives `n`.
 ///
-#[doc = include_str!("bare/reading.md")]
+#[doc = include_str!("refusal/reading_bare.md")]
 ///
 /// # Examples
 ///
@@ -107,7 +107,7 @@ pub fn unpack_to_vec(words: &[u64], width: u32, n: usize) -> Result<Vec<u32>, Re
 /// Packs all of `entries` to the front of `words`; the words after them are kept. Gives the number of
 /// words written, ceil(entries / 64) × width.
 ///
-#[doc = include_str!("bare/packing.md")]
+#[doc = include_str!("refusal/packing.md")]
 ///
 /// # Examples
 ///

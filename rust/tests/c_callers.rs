@@ -1,4 +1,4 @@
-//! What a caller in C or C++ is given: the header by itself, and the example of README.md.
+//! What a caller in C or C++ is given: the header by itself, the example of README.md, and one run as a struct.
 
 use std::fs;
 use std::path::{Path, PathBuf};
@@ -37,7 +37,7 @@ const NEEDS_CC: &str = "this test needs a C compiler, cc, on PATH";
 const NEEDS_CXX: &str = "this test needs a C++ compiler, c++, on PATH";
 
 /// The header's names with document 01's numbers.
-const NUMBERS: [(&str, u32); 26] = [
+const NUMBERS: [(&str, u32); 41] = [
     ("CAHERMISK_ACCEPTED", 0),
     ("CAHERMISK_WIDTH_ABOVE_32", 1),
     ("CAHERMISK_TOO_MANY_ENTRIES", 2),
@@ -47,6 +47,13 @@ const NUMBERS: [(&str, u32); 26] = [
     ("CAHERMISK_INPUT_LEFT_OVER", 6),
     ("CAHERMISK_UNUSED_BITS_NOT_0", 7),
     ("CAHERMISK_VALUE_TOO_LARGE", 8),
+    ("CAHERMISK_NUMBER_BEYOND_32_BITS", 9),
+    ("CAHERMISK_RUN_OF_LENGTH_0", 10),
+    ("CAHERMISK_RUN_PAST_N", 11),
+    ("CAHERMISK_DELTA_SHAPE", 12),
+    ("CAHERMISK_DELTA_COUNT_NOT_N", 13),
+    ("CAHERMISK_UNNEEDED_WIDTH_NOT_0", 16),
+    ("CAHERMISK_MINIBLOCK_TOO_WIDE", 17),
     ("CAHERMISK_EQUAL", 0),
     ("CAHERMISK_NOT_EQUAL", 1),
     ("CAHERMISK_LESS", 2),
@@ -64,6 +71,14 @@ const NUMBERS: [(&str, u32); 26] = [
     ("CAHERMISK_VERTICAL_WORDS(2, 3)", 2),
     ("CAHERMISK_VERTICAL_WORDS(3, 65)", 6),
     ("CAHERMISK_VERTICAL_WORDS(32, 16384)", 8_192),
+    ("CAHERMISK_REPEATED", 0),
+    ("CAHERMISK_PACKED", 1),
+    ("sizeof(cahermisk_run)", 48),
+    ("CAHERMISK_RUNS_BYTES(3, 9)", 8),
+    ("CAHERMISK_RUNS_BYTES(32, 16384)", 67_584),
+    ("CAHERMISK_DELTA_BYTES(1)", 11),
+    ("CAHERMISK_DELTA_BYTES(129)", 532),
+    ("CAHERMISK_DELTA_BYTES(16384)", 66_699),
 ];
 
 /// Compiles a file that includes the header alone, twice, calls its functions and holds its numbers to ours.
@@ -89,7 +104,10 @@ const HEADER_USER: &str = "\
 #include <cahermisk.h>
 static uint8_t page[CAHERMISK_HORIZONTAL_BYTES(3, 8)];
 static uint64_t words[CAHERMISK_VERTICAL_WORDS(3, 8)];
+static uint8_t stream[CAHERMISK_RUNS_BYTES(3, 8)];
+static uint8_t steps[CAHERMISK_DELTA_BYTES(8)];
 static uint8_t bitmap[CAHERMISK_BITMAP_BYTES(8)];
+static int32_t numbers[CAHERMISK_MAX_ENTRIES];
 static uint32_t entries[CAHERMISK_MAX_ENTRIES];
 int all_ends_well(void);
 int all_ends_well(void) {
@@ -101,9 +119,21 @@ int all_ends_well(void) {
     cahermisk_answer read = cahermisk_vertical_unpack(words, 3, 3, 8, entries, 8);
     cahermisk_answer found = cahermisk_vertical_scan(words, 3, 3, 8,
         CAHERMISK_LESS, 3, 0, bitmap, sizeof bitmap);
+    cahermisk_answer cut = cahermisk_runs_pack(entries, 8, 3, stream, sizeof stream);
+    cahermisk_answer laid = cahermisk_runs_unpack(stream, cut.number, 3, 8, entries, 8);
+    cahermisk_answer marked = cahermisk_runs_scan(stream, cut.number, 3, 8,
+        CAHERMISK_EQUAL, 3, 0, bitmap, sizeof bitmap);
+    cahermisk_run run = cahermisk_runs_next(stream, cut.number, 3, 8, 0, 0);
+    cahermisk_answer written = cahermisk_delta_pack(numbers, 8, steps, sizeof steps);
+    cahermisk_answer stepped = cahermisk_delta_unpack(steps, written.number, 8, numbers, 8);
+    cahermisk_answer passed = cahermisk_delta_scan(steps, written.number, 8,
+        CAHERMISK_LESS, -1, 0, bitmap, sizeof bitmap);
     return packed.code == CAHERMISK_ACCEPTED && unpacked.number == 8
         && scanned.code != CAHERMISK_VALUE_TOO_LARGE
-        && planes.number == 3 && read.number == 8 && found.code == CAHERMISK_ACCEPTED;
+        && planes.number == 3 && read.number == 8 && found.code == CAHERMISK_ACCEPTED
+        && laid.number == 8 && marked.code != CAHERMISK_RUN_PAST_N
+        && run.kind == CAHERMISK_REPEATED && run.length == 8 && run.body_len == 0
+        && stepped.number == 8 && passed.code != CAHERMISK_DELTA_SHAPE;
 }
 ";
 
@@ -172,5 +202,57 @@ fn the_c_example_of_the_readme_prints_what_the_readme_says() {
             .current_dir(&room),
         shell,
     );
+    assert_eq!(String::from_utf8_lossy(&output.stdout), printed);
+}
+
+/// Reads a stream run by run, and a run that is refused; all fields of the struct are printed.
+const RUN_BY_RUN: &str = "\
+#include <cahermisk.h>
+#include <stdio.h>
+static void print(cahermisk_run run) {
+    printf(\"%u %u %zu %u %zu %zu %zu\\n\", (unsigned)run.code, (unsigned)run.kind, run.length,
+        (unsigned)run.value, run.next, run.body_at, run.body_len);
+}
+int main(void) {
+    const uint8_t page[] = {0x06, 0x04, 0x03, 0x88, 0xC6, 0xFA};
+    const size_t n = 11;
+    size_t at = 0, covered = 0;
+    while (covered < n) {
+        cahermisk_run run = cahermisk_runs_next(page, sizeof page, 3, n, at, covered);
+        print(run);
+        if (run.code != CAHERMISK_ACCEPTED) return 1;
+        at = run.next;
+        covered += run.length;
+    }
+    print(cahermisk_runs_next(page, sizeof page, 3, n, at, covered));
+    return 0;
+}
+";
+
+#[test]
+fn a_run_is_a_struct_by_value() {
+    let room = room("run_by_run");
+    let source = room.join("run_by_run.c");
+    let program = room.join("run_by_run");
+    fs::write(&source, RUN_BY_RUN).expect("a source file can be written");
+    run(
+        Command::new("cc")
+            .args([
+                "-std=c99",
+                "-Wall",
+                "-Wextra",
+                "-Wpedantic",
+                "-Werror",
+                "-I",
+            ])
+            .arg(top().join("include"))
+            .arg(&source)
+            .arg(env!("CAHERMISK_ARCHIVE"))
+            .arg("-o")
+            .arg(&program),
+        NEEDS_CC,
+    );
+    let output = run(&mut Command::new(&program), "the program just compiled");
+    let printed = "0 0 3 4 2 0 0\n0 1 8 0 6 3 3\n11 0 0 0 0 0 0\n";
     assert_eq!(String::from_utf8_lossy(&output.stdout), printed);
 }

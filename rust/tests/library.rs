@@ -1,8 +1,11 @@
 //! The library's C functions against the second reader, one folder for each layout.
 
 mod bare;
+mod delta;
 mod horizontal;
+mod layouts;
 mod raw;
 mod reader;
+mod runs;
 mod support;
 mod vertical;

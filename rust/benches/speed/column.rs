@@ -20,3 +20,17 @@ pub fn band(width: u32) -> (u32, u32) {
     let greatest = u32::MAX >> (32 - width);
     (greatest / 4, greatest / 4 + greatest / 2)
 }
+
+/// A function for each width from 1 to 32, by its constant parameter.
+macro_rules! of_each_width {
+    ($function:ident as $type:ty) => {
+        $crate::column::of_each_width!($function as $type:
+            1 2 3 4 5 6 7 8 9 10 11 12 13 14 15 16
+            17 18 19 20 21 22 23 24 25 26 27 28 29 30 31 32
+        )
+    };
+    ($function:ident as $type:ty: $($width:literal)*) => {
+        [$($function::<$width> as $type),*]
+    };
+}
+pub(crate) use of_each_width;

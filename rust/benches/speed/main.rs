@@ -3,8 +3,10 @@
 
 mod clock;
 mod column;
+mod delta;
 mod horizontal;
 mod race;
+mod runs;
 mod table;
 mod vertical;
 
@@ -18,4 +20,6 @@ fn main() {
     println!("A ratio is of speeds, by the medians: at 2.00 ours takes half the time.");
     horizontal::report();
     vertical::report();
+    runs::report();
+    delta::report();
 }

@@ -1,65 +1,44 @@
-//! The tests of the bare layouts, written once over any of them.
+//! The tests of the bare layouts alone.
 
-mod calls;
-pub mod comparisons;
-pub mod fences;
-pub mod layout;
-pub mod lengths;
-pub mod limits;
-pub mod order;
-pub mod packing;
-pub mod pages;
-pub mod vectors;
+use crate::layouts::layout::Layout;
+use crate::reader::bare::Bare;
+use crate::reader::Unit;
+use crate::support::lent::Filled;
+use crate::support::random::Random;
+
+pub mod faults;
+pub mod unused;
+
+/// A layout whose pages have one exact length.
+pub trait BareLayout: Layout + Bare {}
+
+impl<L: Layout + Bare> BareLayout for L {}
+
+/// Any bits, but for the unused ones.
+pub fn random_page<L: BareLayout>(width: u32, n: usize, random: &mut Random) -> Vec<L::Unit> {
+    let mut page: Vec<L::Unit> = random.units(L::page_len(width, n));
+    for (at, k) in L::unused_bits(width, n) {
+        page[at] = L::Unit::of(page[at].number() & !(1 << k));
+    }
+    page
+}
+
+pub fn page_of_zeros<L: BareLayout>(width: u32, n: usize) -> Vec<L::Unit> {
+    vec![L::Unit::filled(0); L::page_len(width, n)]
+}
 
 /// All tests of this folder, over one layout.
-macro_rules! tests_of {
+macro_rules! tests_of_bare {
     ($layout:ident) => {
-        $crate::bare::tests_of! { $layout:
-            comparisons {
-                small_pages_under_every_comparison
-                large_pages
-                operators_0_to_5_ignore_b
-                scans_at_random
-            }
-            fences {
-                nothing_is_read_outside_the_places
-                a_page_cut_short
-            }
-            lengths {
-                every_truncation_and_some_units_more
-                each_unused_bit_set
-                outputs_short_exact_and_long
-                unpacks_at_random
-            }
-            limits {
-                scans_and_unpacks
-                packs
-            }
-            order {
+        $crate::support::tests_over! { bare, $layout:
+            faults {
                 scans_and_unpacks_with_any_set_of_faults
-                packs_with_any_set_of_faults
-                no_entries
                 width_0
             }
-            packing {
-                packs_with_every_room
-                an_entry_too_large
-                packs_at_random
-                round_trips
-            }
-            vectors {
-                every_row
-                malformed_lines
+            unused {
+                each_unused_bit_set
             }
         }
     };
-    ($layout:ident: $($module:ident { $($test:ident)* })*) => {
-        $(mod $module {
-            $(#[test]
-            fn $test() {
-                $crate::bare::$module::$test::<super::$layout>();
-            })*
-        })*
-    };
 }
-pub(crate) use tests_of;
+pub(crate) use tests_of_bare;

@@ -1,6 +1,7 @@
 //! Bare horizontal pages: entry i takes bits i × w to i × w + w − 1, lowest first, bytes in order.
 
-use super::bare::Rules;
+use super::bare::{read, Bare};
+use super::calls::Rules;
 use super::{bit, units_of};
 
 pub struct Horizontal;
@@ -8,6 +9,22 @@ pub struct Horizontal;
 impl Rules for Horizontal {
     type Unit = u8;
 
+    fn read(page: &[u8], width: u32, n: usize) -> Result<Vec<u32>, u32> {
+        read::<Self>(page, width, n)
+    }
+
+    fn page_of(entries: &[u32], width: u32) -> Vec<u8> {
+        let mut bits = Vec::new();
+        for &entry in entries {
+            for k in 0..width {
+                bits.push(bit(u64::from(entry), k as usize));
+            }
+        }
+        units_of(&bits)
+    }
+}
+
+impl Bare for Horizontal {
     /// The input has exactly ceil(n × w / 8) bytes.
     fn page_len(width: u32, n: usize) -> usize {
         (n * width as usize).div_ceil(8)
@@ -27,15 +44,5 @@ impl Rules for Horizontal {
     fn unused_bits(width: u32, n: usize) -> Vec<(usize, usize)> {
         let unused = n * width as usize..Self::page_len(width, n) * 8;
         unused.map(|at| (at / 8, at % 8)).collect()
-    }
-
-    fn page_of(entries: &[u32], width: u32) -> Vec<u8> {
-        let mut bits = Vec::new();
-        for &entry in entries {
-            for k in 0..width {
-                bits.push((entry >> k) & 1 == 1);
-            }
-        }
-        units_of(&bits)
     }
 }

@@ -2,7 +2,11 @@
 //! It is written from that document alone and shares no code with the library or the package.
 
 pub mod bare;
+pub mod calls;
+pub mod delta;
 pub mod horizontal;
+pub mod numbers;
+pub mod runs;
 pub mod vertical;
 
 /// What a call must leave behind: its answer, and all that the place lent for writing holds.

@@ -1,6 +1,6 @@
 //! Calls of the library, each compared with the second reader.
 
-use std::fmt::LowerHex;
+use std::fmt::{Debug, LowerHex};
 use std::io::{stdout, Write};
 
 use super::lent::{Filled, Lent, FILLINGS};
@@ -34,9 +34,7 @@ impl Calls {
         call: impl FnOnce(&Lent<I>, &mut Lent<O>) -> Answer,
         described: impl FnOnce() -> String,
     ) -> Outcome<O> {
-        let guard = FILLINGS[self.made % FILLINGS.len()];
-        let shift = self.made / FILLINGS.len() % 8;
-        self.made += 1;
+        let (guard, shift) = self.next_guard();
         let input_place = Lent::new(input, guard, shift);
         let mut output_place = Lent::new(output, guard, shift);
         let Answer { code, number } = call(&input_place, &mut output_place);
@@ -52,19 +50,45 @@ impl Calls {
         } else {
             return want;
         };
-        self.report(&fault, &want, described())
+        let held = clipped(&want.held);
+        let rules = format!("({}, {}), leaving {held}", want.code, want.number);
+        self.report(&fault, &rules, described())
+    }
+
+    /// Makes one call that is lent nothing to write, on a place that holds `input`, and panics unless it answers
+    /// `want` and changes neither its input nor a guard.
+    pub fn check_reading<I: Filled, A: Debug + PartialEq>(
+        &mut self,
+        input: &[I],
+        want: A,
+        call: impl FnOnce(&Lent<I>) -> A,
+        described: impl FnOnce() -> String,
+    ) -> A {
+        let (guard, shift) = self.next_guard();
+        let place = Lent::new(input, guard, shift);
+        let answer = call(&place);
+        if answer == want && place.held() == input && place.guards_kept() {
+            return answer;
+        }
+        let fault = format!("answered {answer:?}");
+        self.report(&fault, &format!("{want:?}"), described())
+    }
+
+    /// What the guards of the next call hold, and by how many elements its places are shifted.
+    fn next_guard(&mut self) -> (u8, usize) {
+        let guard = FILLINGS[self.made % FILLINGS.len()];
+        let shift = self.made / FILLINGS.len() % 8;
+        self.made += 1;
+        (guard, shift)
     }
 
     /// Ends the test with all that is needed to make the failing call again.
-    fn report<O: LowerHex>(&self, fault: &str, want: &Outcome<O>, described: String) -> ! {
+    fn report(&self, fault: &str, rules: &str, described: String) -> ! {
         panic!(
-            "{}: call {} with CAHERMISK_SEED={:#x} {fault}\n  {described}\n  the rules: ({}, {}), leaving {}",
+            "{}: call {} with CAHERMISK_SEED={:#x} {fault}\n  {described}\n  the rules: {rules}",
             self.subject,
             self.made,
             seed(),
-            want.code,
-            want.number,
-            clipped(&want.held),
         )
     }
 

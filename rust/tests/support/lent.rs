@@ -22,6 +22,12 @@ impl Filled for u32 {
     }
 }
 
+impl Filled for i32 {
+    fn filled(with: u8) -> i32 {
+        i32::from_ne_bytes([with; 4])
+    }
+}
+
 impl Filled for u64 {
     fn filled(with: u8) -> u64 {
         u64::from_ne_bytes([with; 8])

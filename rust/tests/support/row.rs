@@ -54,7 +54,10 @@ impl<'a> Row<'a> {
         self.label(label)?;
         let mut list = Vec::new();
         while let Some(word) = self.0.next_if(|&word| word != ARROW) {
-            list.push(element(word)?);
+            let (word, times) = repeated(word)?;
+            for _ in 0..times {
+                list.push(element(word)?);
+            }
         }
         Ok(list)
     }
@@ -68,12 +71,26 @@ impl<'a> Row<'a> {
         self.label(label)?;
         let mut list = Vec::new();
         for word in self.0.by_ref() {
-            list.push(match word {
-                "." => None,
-                word => Some(element(word)?),
-            });
+            let (word, times) = repeated(word)?;
+            for _ in 0..times {
+                list.push(match word {
+                    "." => None,
+                    word => Some(element(word)?),
+                });
+            }
         }
         Ok(list)
+    }
+}
+
+/// An element and how often it stands there: 5*3 is 5 5 5.
+fn repeated(word: &str) -> Result<(&str, usize), String> {
+    let Some((element, times)) = word.split_once('*') else {
+        return Ok((word, 1));
+    };
+    match decimal(times)? {
+        0 => Err(format!("'{word}' is nothing")),
+        times => Ok((element, times)),
     }
 }
 
@@ -86,9 +103,8 @@ pub fn decimal<T: FromStr + Display>(word: &str) -> Result<T, String> {
 
 /// A byte or word in capital hexadecimal digits, all of them.
 pub fn hexadecimal<U: Unit>(word: &str) -> Result<U, String> {
-    let number = u64::from_str_radix(word, 16).ok();
-    let number =
-        number.filter(|number| format!("{number:0digits$X}", digits = U::BITS / 4) == word);
-    let number = number.ok_or(format!("'{word}' is no such hexadecimal number"))?;
-    Ok(U::of(number))
+    let unit = u64::from_str_radix(word, 16).ok().map(U::of);
+    let digits = |unit: &U| format!("{:0digits$X}", unit.number(), digits = U::BITS / 4);
+    let unit = unit.filter(|unit| digits(unit) == word);
+    unit.ok_or(format!("'{word}' is no such hexadecimal number"))
 }

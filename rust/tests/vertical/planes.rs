@@ -1,7 +1,7 @@
 //! The planes in their order, and all of them: what the words say by themselves, without the second reader.
 
-use crate::bare::pages::greatest;
-use crate::reader::bare::{Pack, Rules, Scan, Unpack};
+use crate::layouts::pages::greatest;
+use crate::reader::calls::{Pack, Rules, Scan, Unpack};
 use crate::reader::vertical::Vertical;
 use crate::support::calls::Calls;
 

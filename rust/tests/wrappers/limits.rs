@@ -14,7 +14,7 @@ in_each_layout! {
 
 /// Huge counts and widths are refused, and no place is made for them first.
 fn huge_arguments_are_refused<T>(layout: &Layout<T>) {
-    let page = &layout.page;
+    let page = layout.page;
     for n in [MAX_ENTRIES + 1, (1 << 32) + 5, usize::MAX] {
         let less = Comparison::less(3);
         let many = Refusal::TooManyEntries;
@@ -34,7 +34,7 @@ fn the_largest_page<T>(layout: &Layout<T>) {
         .map(|i| i.wrapping_mul(0x9E37_79B9))
         .collect();
     let page = (layout.pack_to_vec)(&entries, MAX_WIDTH).expect("within the limits");
-    assert_eq!(size_of_val(&page[..]), 65_536);
+    assert_eq!(size_of_val(&page[..]), layout.largest);
     let unpacked = (layout.unpack_to_vec)(&page, MAX_WIDTH, MAX_ENTRIES);
     assert_eq!(unpacked.as_ref(), Ok(&entries));
     let above = Comparison::greater(1 << 31);

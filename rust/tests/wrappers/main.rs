@@ -1,7 +1,9 @@
 //! The package's safe functions: what they give, each refusal, and no panic at any argument.
 
+mod delta;
 mod layout;
 mod limits;
 mod names;
 mod refusals;
 mod results;
+mod runs;

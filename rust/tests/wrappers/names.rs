@@ -2,7 +2,7 @@
 
 use cahermisk::{Operator, Refusal};
 
-const REFUSALS: [(Refusal, u32, &str); 8] = [
+const REFUSALS: [(Refusal, u32, &str); 15] = [
     (Refusal::WidthAbove32, 1, "width above 32"),
     (Refusal::TooManyEntries, 2, "more than 16,384 entries"),
     (Refusal::OperatorAbove7, 3, "operator above 7"),
@@ -10,7 +10,34 @@ const REFUSALS: [(Refusal, u32, &str); 8] = [
     (Refusal::InputEndsTooEarly, 5, "input ends too early"),
     (Refusal::InputLeftOver, 6, "input left over"),
     (Refusal::UnusedBitsNot0, 7, "unused bits not 0"),
-    (Refusal::ValueTooLarge, 8, "entry not below 2^width"),
+    (
+        Refusal::ValueTooLarge,
+        8,
+        "entry or run value not below 2^width",
+    ),
+    (
+        Refusal::NumberBeyond32Bits,
+        9,
+        "variable-length number beyond 32 bits",
+    ),
+    (Refusal::RunOfLength0, 10, "run of length 0"),
+    (
+        Refusal::RunPastN,
+        11,
+        "run goes too far past n, or one run is asked for with n covered",
+    ),
+    (Refusal::DeltaShape, 12, "delta shape"),
+    (Refusal::DeltaCountNotN, 13, "delta count is not n"),
+    (
+        Refusal::UnneededWidthNot0,
+        16,
+        "width byte of an unneeded miniblock not 0",
+    ),
+    (
+        Refusal::MiniblockTooWide,
+        17,
+        "delta writer: a miniblock needs more than 32 bits",
+    ),
 ];
 
 #[test]

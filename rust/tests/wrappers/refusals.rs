@@ -4,7 +4,7 @@ use std::fmt::Debug;
 
 use cahermisk::{Comparison, Refusal};
 
-use crate::layout::{in_each_layout, Layout, ENTRIES};
+use crate::layout::{in_each_layout, Layout, ENTRIES, HORIZONTAL, VERTICAL};
 
 in_each_layout! {
     scans_refuse
@@ -13,9 +13,13 @@ in_each_layout! {
 }
 
 /// The layout's page with an element more.
-fn longer<T: Copy>(layout: &Layout<T>) -> [T; 4] {
-    let [first, second, third] = layout.page;
-    [first, second, third, third]
+fn longer<T: Copy>(layout: &Layout<T>) -> Vec<T> {
+    [layout.page, &layout.page[..1]].concat()
+}
+
+/// The layout's page without its last element.
+fn shorter<T>(layout: &Layout<T>) -> &[T] {
+    &layout.page[..layout.page.len() - 1]
 }
 
 fn scans_refuse<T: Copy>(layout: &Layout<T>) {
@@ -25,13 +29,13 @@ fn scans_refuse<T: Copy>(layout: &Layout<T>) {
         assert_eq!(bitmap, vec![0xA5; room], "a refusal wrote");
         answer
     };
-    let (page, longer) = (&layout.page, &longer(layout));
+    let (page, longer) = (layout.page, &longer(layout));
     assert_eq!(scan(page, 33, 8, 1), Err(Refusal::WidthAbove32));
     assert_eq!(scan(page, 3, 16_385, 1), Err(Refusal::TooManyEntries));
     assert_eq!(scan(page, 3, 8, 0), Err(Refusal::OutputTooShort));
-    assert_eq!(scan(&page[..2], 3, 8, 1), Err(Refusal::InputEndsTooEarly));
+    let shorter = shorter(layout);
+    assert_eq!(scan(shorter, 3, 8, 1), Err(Refusal::InputEndsTooEarly));
     assert_eq!(scan(longer, 3, 8, 1), Err(Refusal::InputLeftOver));
-    assert_eq!(scan(page, 3, 7, 1), Err(Refusal::UnusedBitsNot0));
 }
 
 fn unpacks_refuse<T: Copy>(layout: &Layout<T>) {
@@ -41,13 +45,30 @@ fn unpacks_refuse<T: Copy>(layout: &Layout<T>) {
         assert_eq!(entries, vec![99; room], "a refusal wrote");
         answer
     };
-    let (page, longer) = (&layout.page, &longer(layout));
+    let (page, longer) = (layout.page, &longer(layout));
     assert_eq!(unpack(page, 33, 8, 8), Err(Refusal::WidthAbove32));
     assert_eq!(unpack(page, 3, 16_385, 8), Err(Refusal::TooManyEntries));
     assert_eq!(unpack(page, 3, 8, 7), Err(Refusal::OutputTooShort));
-    assert_eq!(unpack(&page[..2], 3, 8, 8), Err(Refusal::InputEndsTooEarly));
+    let shorter = shorter(layout);
+    assert_eq!(unpack(shorter, 3, 8, 8), Err(Refusal::InputEndsTooEarly));
     assert_eq!(unpack(longer, 3, 8, 8), Err(Refusal::InputLeftOver));
-    assert_eq!(unpack(page, 3, 7, 8), Err(Refusal::UnusedBitsNot0));
+}
+
+/// The last of the page's entries is not 0, and not asked for.
+fn unused_bits_not_0<T>(layout: &Layout<T>) {
+    let unused = Refusal::UnusedBitsNot0;
+    let less = Comparison::less(3);
+    assert_eq!(
+        (layout.scan_to_bitmap)(layout.page, 3, 7, less),
+        Err(unused)
+    );
+    assert_eq!((layout.unpack_to_vec)(layout.page, 3, 7), Err(unused));
+}
+
+#[test]
+fn bare_layouts_refuse_unused_bits() {
+    unused_bits_not_0(&HORIZONTAL);
+    unused_bits_not_0(&VERTICAL);
 }
 
 fn packs_refuse<T: Copy + Debug + PartialEq>(layout: &Layout<T>) {
@@ -60,7 +81,8 @@ fn packs_refuse<T: Copy + Debug + PartialEq>(layout: &Layout<T>) {
     assert_eq!(pack(&ENTRIES, 33, 3), Err(Refusal::WidthAbove32));
     assert_eq!(pack(&[0; 16_385], 3, 3), Err(Refusal::TooManyEntries));
     assert_eq!(pack(&ENTRIES, 2, 3), Err(Refusal::ValueTooLarge));
-    assert_eq!(pack(&ENTRIES, 3, 2), Err(Refusal::OutputTooShort));
+    let short = layout.page.len() - 1;
+    assert_eq!(pack(&ENTRIES, 3, short), Err(Refusal::OutputTooShort));
 
     let to_vec = layout.pack_to_vec;
     assert_eq!(to_vec(&[0; 16_385], 32), Err(Refusal::TooManyEntries));

@@ -28,7 +28,7 @@ fn comparisons_select_what_they_say<T>(layout: &Layout<T>) {
         (Comparison::new(Operator::Less, 9, -1), 0b1111_1111),
         (Comparison::greater(i64::MIN), 0b1111_1111),
     ] {
-        let selection = (layout.scan_to_bitmap)(&layout.page, 3, 8, comparison);
+        let selection = (layout.scan_to_bitmap)(layout.page, 3, 8, comparison);
         let selection = selection.expect("a good page");
         assert_eq!(selection.as_bytes(), [bitmap], "{comparison:?}");
         assert_eq!(selection.count(), bitmap.count_ones() as usize);
@@ -57,15 +57,17 @@ where
     T: Copy + Default + Debug + PartialEq,
 {
     let mut bitmap = [0xA5; 2];
-    let count = (layout.scan)(&layout.page, 3, 8, Comparison::less(3), &mut bitmap);
+    let count = (layout.scan)(layout.page, 3, 8, Comparison::less(3), &mut bitmap);
     assert_eq!((count, bitmap), (Ok(3), [0x07, 0xA5]));
 
     let mut entries = [99; 9];
-    assert_eq!((layout.unpack)(&layout.page, 3, 8, &mut entries), Ok(8));
+    assert_eq!((layout.unpack)(layout.page, 3, 8, &mut entries), Ok(8));
     assert_eq!(entries, [0, 1, 2, 3, 4, 5, 6, 7, 99]);
 
-    let [first, second, third] = layout.page;
-    let mut page = [T::default(), T::default(), T::default(), third];
-    assert_eq!((layout.pack)(&ENTRIES, 3, &mut page), Ok(3));
-    assert_eq!(page, [first, second, third, third]);
+    let last = layout.page[2];
+    let mut page = vec![T::default(); layout.page.len()];
+    page.push(last);
+    let written = (layout.pack)(&ENTRIES, 3, &mut page);
+    assert_eq!(written, Ok(layout.page.len()));
+    assert_eq!(page, [layout.page, &[last]].concat());
 }

@@ -1,6 +1,8 @@
 //! The best Rust for the job, as parquet and arrow do it: 64 entries unpacked with constant shifts, then
 //! compared and put together as one word of the bitmap. The entries are a multiple of 64.
 
+use crate::column::of_each_width;
+
 /// Word i of eight bytes, low byte first.
 ///
 /// # Safety
@@ -34,7 +36,7 @@ unsafe fn entry<const W: usize, const I: usize>(page: *const u8) -> u32 {
 ///
 /// The page has 8 × W bytes from `page` on.
 #[inline(always)]
-unsafe fn unpack64<const W: usize>(page: *const u8) -> [u32; 64] {
+pub unsafe fn unpack64<const W: usize>(page: *const u8) -> [u32; 64] {
     macro_rules! entries {
         ($($i:literal)*) => {
             // SAFETY: the caller says that all 64 entries are there.
@@ -51,7 +53,7 @@ unsafe fn unpack64<const W: usize>(page: *const u8) -> [u32; 64] {
 
 /// Bit i is set if entry i is selected. A byte at a time is twice as fast as one chain of 64 bits.
 #[inline(always)]
-fn word_of(entries: &[u32; 64], low: u32, span: u32) -> u64 {
+pub fn word_of(entries: &[u32; 64], low: u32, span: u32) -> u64 {
     let mut word = 0;
     for (g, eight) in entries.chunks_exact(8).enumerate() {
         let mut byte = 0;
@@ -79,12 +81,6 @@ fn select<const W: usize>(page: &[u8], low: u32, span: u32, bitmap: &mut [u8]) -
 /// Selects the entries from low to high, and counts them. The width is 1 to 32.
 pub fn scan(page: &[u8], width: u32, low: u32, high: u32, bitmap: &mut [u8]) -> usize {
     type Select = fn(&[u8], u32, u32, &mut [u8]) -> usize;
-    macro_rules! of_width {
-        ($($w:literal)*) => { [$(select::<$w> as Select),*] };
-    }
-    const SELECTS: [Select; 32] = of_width!(
-        1 2 3 4 5 6 7 8 9 10 11 12 13 14 15 16
-        17 18 19 20 21 22 23 24 25 26 27 28 29 30 31 32
-    );
+    const SELECTS: [Select; 32] = of_each_width!(select as Select);
     SELECTS[width as usize - 1](page, low, high - low, bitmap)
 }

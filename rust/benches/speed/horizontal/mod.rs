@@ -1,6 +1,6 @@
 //! Bare horizontal pages: scan at every width, unpack and pack at some.
 
-mod best;
+pub mod best;
 mod obvious;
 
 use std::hint::black_box;

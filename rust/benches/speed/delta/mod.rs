@@ -1,0 +1,83 @@
+//! Delta pages: scan, unpack and pack over steps of some widths.
+
+mod obvious;
+
+use std::hint::black_box;
+
+use cahermisk::{delta, Comparison};
+
+use crate::column::{self, ENTRIES};
+use crate::race::race;
+use crate::table::heading;
+
+const WIDTHS: [u32; 10] = [1, 2, 4, 7, 8, 12, 16, 20, 24, 32];
+
+pub fn report() {
+    println!(
+        "\nobvious: safe Rust, deltas unpacked 32 at once with constant shifts and added up into a list of entries; then compared."
+    );
+    println!("A width is that of the steps above the smallest, as they are packed.");
+    heading(
+        "Delta scan, 16,384 entries, a band of half of them",
+        &["obvious"],
+    );
+    WIDTHS.into_iter().for_each(scan);
+    heading("Delta unpack, 16,384 entries", &["obvious"]);
+    WIDTHS.into_iter().for_each(unpack);
+    heading("Delta pack, 16,384 entries", &["obvious"]);
+    WIDTHS.into_iter().for_each(pack);
+}
+
+/// Entries with steps of a width, up and down.
+fn entries(width: u32) -> Vec<i32> {
+    let smallest = i32::MIN >> (32 - width);
+    let mut last = 0i32;
+    let steps = column::entries(width).into_iter();
+    let entries = steps.map(|above| {
+        last = last.wrapping_add(smallest).wrapping_add(above as i32);
+        last
+    });
+    entries.collect()
+}
+
+fn page(width: u32) -> Vec<u8> {
+    delta::pack_to_vec(&entries(width)).expect("within the limits")
+}
+
+/// The middle half of the entries.
+fn band(width: u32) -> (i32, i32) {
+    let mut sorted = entries(width);
+    sorted.sort();
+    (sorted[ENTRIES / 4], sorted[ENTRIES / 4 * 3])
+}
+
+fn scan(width: u32) {
+    let page = page(width);
+    let (low, high) = band(width);
+    let between = Comparison::between(low.into(), high.into());
+    let ours = |bitmap: &mut [u8]| {
+        delta::scan(black_box(&page), ENTRIES, between, bitmap).expect("a good page")
+    };
+    let obvious = |bitmap: &mut [u8]| {
+        obvious::scan(black_box(&page), ENTRIES, low, high, bitmap).expect("a good page")
+    };
+    race(width, &[0xA5; ENTRIES / 8], &[&ours, &obvious]);
+}
+
+fn unpack(width: u32) {
+    let page = page(width);
+    let ours =
+        |list: &mut [i32]| delta::unpack(black_box(&page), ENTRIES, list).expect("a good page");
+    let obvious = |list: &mut [i32]| obvious::unpack(black_box(&page), list).expect("a good page");
+    let unpacked = race(width, &[0xA5; ENTRIES], &[&ours, &obvious]);
+    assert_eq!(unpacked, entries(width), "width {width}");
+}
+
+fn pack(width: u32) {
+    let entries = entries(width);
+    let ours =
+        |page: &mut [u8]| delta::pack(black_box(&entries), page).expect("there is room enough");
+    let obvious = |page: &mut [u8]| obvious::pack(black_box(&entries), page);
+    let room = vec![0xA5; page(width).len()];
+    race(width, &room, &[&ours, &obvious]);
+}

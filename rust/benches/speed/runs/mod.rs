@@ -1,0 +1,90 @@
+//! Run streams: scan over runs of different shapes, unpack and pack over a mixture, at some widths.
+
+mod best;
+pub mod obvious;
+mod stream;
+
+use std::hint::black_box;
+
+use cahermisk::{runs, Comparison};
+
+use crate::column::{band, ENTRIES};
+use crate::race::race;
+use crate::table::heading;
+use stream::Shape;
+
+const WIDTHS: [u32; 7] = [1, 3, 7, 8, 12, 20, 32];
+
+pub fn report() {
+    println!(
+        "\nobvious: safe Rust, runs read into a list of entries, packed ones by eight with constant shifts; then compared."
+    );
+    println!("best: no list; each run's bits are put into the bitmap, packed ones 64 at once.");
+    for (title, shape) in [
+        ("long repeated runs", Shape::Long),
+        (
+            "packed runs that begin at a byte of the bitmap",
+            Shape::Aligned,
+        ),
+        ("packed runs that begin inside a byte", Shape::Unaligned),
+        (
+            "repeated runs of 8 to 40 and packed runs of 1 to 8 groups",
+            Shape::Mixed,
+        ),
+    ] {
+        let title = format!("Run stream scan, 16,384 entries, {title}");
+        heading(&title, &["obvious", "best"]);
+        WIDTHS.into_iter().for_each(|width| scan(width, shape));
+    }
+    heading(
+        "Run stream unpack, 16,384 entries, the same mixture",
+        &["obvious"],
+    );
+    WIDTHS.into_iter().for_each(unpack);
+    heading(
+        "Run stream pack, 16,384 entries, the same mixture",
+        &["obvious"],
+    );
+    WIDTHS.into_iter().for_each(pack);
+}
+
+fn scan(width: u32, shape: Shape) {
+    let page = shape.stream(width);
+    let (low, high) = band(width);
+    let between = Comparison::between(low.into(), high.into());
+    let ours = |bitmap: &mut [u8]| {
+        runs::scan(black_box(&page), width, ENTRIES, between, bitmap).expect("a good stream")
+    };
+    let obvious = |bitmap: &mut [u8]| {
+        let count = obvious::scan(black_box(&page), width, ENTRIES, low, high, bitmap);
+        count.expect("a good stream")
+    };
+    let best = |bitmap: &mut [u8]| {
+        let count = best::scan(black_box(&page), width, ENTRIES, low, high, bitmap);
+        count.expect("a good stream")
+    };
+    race(width, &[0xA5; ENTRIES / 8], &[&ours, &obvious, &best]);
+}
+
+fn unpack(width: u32) {
+    let page = Shape::Mixed.stream(width);
+    let ours = |list: &mut [u32]| {
+        runs::unpack(black_box(&page), width, ENTRIES, list).expect("a good stream")
+    };
+    let obvious =
+        |list: &mut [u32]| obvious::unpack(black_box(&page), width, list).expect("a good stream");
+    race(width, &[0xA5; ENTRIES], &[&ours, &obvious]);
+}
+
+fn pack(width: u32) {
+    let page = Shape::Mixed.stream(width);
+    let entries = runs::unpack_to_vec(&page, width, ENTRIES).expect("a good stream");
+    let ours = |page: &mut [u8]| {
+        runs::pack(black_box(&entries), width, page).expect("the entries fit the width")
+    };
+    let obvious = |page: &mut [u8]| {
+        obvious::pack(black_box(&entries), width, page).expect("the entries fit the width")
+    };
+    let room = runs::pack_to_vec(&entries, width).expect("the entries fit the width");
+    race(width, &vec![0xA5; room.len()], &[&ours, &obvious]);
+}

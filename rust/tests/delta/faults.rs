@@ -1,0 +1,157 @@
+//! Where several codes could be given, the first is: 2, 3, 4, and then the first fault in reading order.
+
+use crate::reader::delta::{page_of, Scan, Unpack};
+use crate::support::calls::Calls;
+
+/// Headers of 34 entries with a fault, and its code. Where one of them has a second fault, that comes later in
+/// reading order: all four numbers are read, then the shape is judged, then the count.
+const HEADERS: [(&[u8], u32); 25] = [
+    (&[], 5),
+    (&[0x80], 5),
+    (&[0x80, 0x01], 5),
+    (&[0x80, 0x01, 0x04], 5),
+    (&[0x80, 0x01, 0x04, 0x22], 5),
+    (&[0x80, 0x01, 0x04, 0x22, 0x80], 5),
+    (&[0x80, 0x80, 0x80, 0x80, 0x10], 9),
+    (&[0xFF, 0xFF, 0xFF, 0xFF, 0xFF], 9),
+    (&[0x80, 0x01, 0x84, 0x80, 0x80, 0x80, 0x10], 9),
+    (&[0x80, 0x01, 0x04, 0xA2, 0x80, 0x80, 0x80, 0x10], 9),
+    (&[0x80, 0x01, 0x04, 0x22, 0xFF, 0xFF, 0xFF, 0xFF, 0x1F], 9),
+    (&[0x08, 0x01, 0x22], 5),
+    (&[0x08, 0x01, 0x22, 0x80, 0x80, 0x80, 0x80, 0x10], 9),
+    (&[0x80, 0x01, 0x04, 0x21, 0x80], 5),
+    (&[0x80, 0x01, 0x04, 0x21, 0x80, 0x80, 0x80, 0x80, 0x10], 9),
+    (&[0x08, 0x01, 0x22, 0x00], 12),
+    (&[0x08, 0x01, 0x21, 0x00], 12),
+    (&[0x00, 0x01, 0x22, 0x00], 12),
+    (&[0x80, 0x01, 0x00, 0x22, 0x00], 12),
+    (&[0x80, 0x01, 0x03, 0x22, 0x00], 12),
+    (&[0x80, 0x01, 0x08, 0x22, 0x00], 12),
+    (&[0x80, 0x01, 0x04, 0x21, 0x00], 13),
+    (&[0x80, 0x01, 0x04, 0x23, 0x00], 13),
+    (&[0x80, 0x01, 0x04, 0xA2, 0x80, 0x01, 0x00], 13),
+    (&[0x80, 0x01, 0x04, 0xA2, 0x80, 0x80, 0x80, 0x08, 0x00], 13),
+];
+
+/// A good header of 34 entries, so of two needed miniblocks of 32, and the blocks behind it with a fault: the
+/// smallest delta, the width bytes first to last, then the bodies, and what is left over.
+const HEADER: [u8; 5] = [0x80, 0x01, 0x04, 0x22, 0x00];
+const BLOCKS: [(&[u8], u32); 15] = [
+    (&[], 5),
+    (&[0x80], 5),
+    (&[0x80, 0x80, 0x80, 0x80, 0x10], 9),
+    (&[0x00, 0x00], 5),
+    (&[0x00, 0x20], 5),
+    (&[0x00, 0x21], 1),
+    (&[0x00, 0x00, 0xFF, 0x01], 1),
+    (&[0x00, 0x21, 0x00, 0x01, 0x00], 1),
+    (&[0x00, 0x20, 0x20, 0x01], 16),
+    (&[0x00, 0x20, 0x20, 0x00, 0x21], 16),
+    (&[0x00, 0x01, 0x01, 0x00, 0xFF], 16),
+    (&[0x00, 0x01, 0x00, 0x00, 0x00, 1, 2, 3], 5),
+    (&[0x00, 0x01, 0x01, 0x00, 0x00, 1, 2, 3, 4, 5], 5),
+    (&[0x00, 0x01, 0x00, 0x00, 0x00, 1, 2, 3, 4, 5], 6),
+    (&[0x00, 0x00, 0x00, 0x00, 0x00, 0x00], 6),
+];
+
+/// All of these as pages.
+fn faulty() -> Vec<(Vec<u8>, u32)> {
+    let headers = HEADERS.map(|(page, code)| (page.to_vec(), code));
+    let blocks = BLOCKS.map(|(block, code)| ([&HEADER, block].concat(), code));
+    headers.into_iter().chain(blocks).collect()
+}
+
+#[test]
+fn faulty_pages_under_any_set_of_faulty_arguments() {
+    let mut calls = Calls::of_delta("codes in order");
+    for (page, in_page) in faulty() {
+        for set in 0..8u32 {
+            let [count, operator, short] = [1, 2, 4].map(|fault| set & fault != 0);
+            let n: usize = if count { 16_385 } else { 34 };
+            let first = |faults: &[(bool, u32)]| {
+                let found = faults.iter().find(|(fault, _)| *fault);
+                found.map_or(in_page, |&(_, code)| code)
+            };
+            let scanned = calls.scan_delta(&Scan {
+                page: &page,
+                n,
+                op: if operator { 8 } else { 2 },
+                a: 3,
+                b: 0,
+                bitmap: &vec![0xA5; n.div_ceil(8) - usize::from(short)],
+            });
+            let code = first(&[(count, 2), (operator, 3), (short, 4)]);
+            assert_eq!(scanned.code, code, "scan of {page:02x?}, faults {set}");
+            let unpacked = calls.unpack_delta(&Unpack {
+                page: &page,
+                n,
+                entries: &vec![99; n - usize::from(short)],
+            });
+            let code = first(&[(count, 2), (short, 4)]);
+            assert_eq!(unpacked.code, code, "unpack of {page:02x?}, faults {set}");
+        }
+    }
+    calls.finish();
+}
+
+/// The header is needed also for no entries, and for one nothing follows it.
+#[test]
+fn no_blocks() {
+    let mut calls = Calls::of_delta("pages of no blocks");
+    for n in [0, 1] {
+        let header = [0x80, 0x01, 0x04, n as u8, 0x09];
+        assert_eq!(calls.read_delta(&header, n), 0);
+        assert_eq!(calls.read_delta(&[], n), 5);
+        assert_eq!(calls.read_delta(&header[..4], n), 5);
+        assert_eq!(calls.read_delta(&header, 1 - n), 13);
+        for more in [0x00, 0x02, 0x80, 0xFF] {
+            assert_eq!(calls.read_delta(&[&header[..], &[more]].concat(), n), 6);
+        }
+    }
+    assert_eq!(
+        calls.entries_of_delta(&[0x80, 0x01, 0x04, 0x01, 0x09], 1),
+        [-5]
+    );
+    calls.finish();
+}
+
+/// The second block is judged as the first is, behind the first one's bodies.
+#[test]
+fn the_second_block() {
+    let mut calls = Calls::of_delta("faults of the second block");
+    let header = [0x80, 0x01, 0x04, 0x82, 0x01, 0x00];
+    let first = [&[0x00, 0x01, 0x00, 0x00, 0x00][..], &[7; 4]].concat();
+    for (second, code) in [
+        (&[][..], 5),
+        (&[0x80, 0x80, 0x80, 0x80, 0x10], 9),
+        (&[0x00, 0x21], 1),
+        (&[0x00, 0x20], 5),
+        (&[0x00, 0x00, 0x01], 16),
+        (&[0x00, 0x00, 0x00, 0x00, 0x21], 16),
+        (&[0x00, 0x01, 0x00, 0x00, 0x00, 1, 2, 3], 5),
+        (&[0x00, 0x01, 0x00, 0x00, 0x00, 1, 2, 3, 4], 0),
+        (&[0x00, 0x01, 0x00, 0x00, 0x00, 1, 2, 3, 4, 5], 6),
+    ] {
+        let page = [&header[..], &first, second].concat();
+        assert_eq!(calls.read_delta(&page, 130), code, "{second:02x?}");
+    }
+    calls.finish();
+}
+
+/// Each width byte of the last block by itself above 32, at all counts: 1 if the miniblock holds a delta of an entry
+/// below n, else 16. Equal entries have no bodies, so that those width bytes end the page.
+#[test]
+fn width_bytes_of_the_last_block() {
+    let mut calls = Calls::of_delta("width bytes of the last block");
+    for n in 2..=400 {
+        let page = page_of(&vec![7; n]);
+        let left = (n - 2) % 128 + 1;
+        for m in 0..4 {
+            let mut bad = page.clone();
+            bad[page.len() - 4 + m] = 33;
+            let code = if 32 * m < left { 1 } else { 16 };
+            assert_eq!(calls.read_delta(&bad, n), code, "n {n}, miniblock {m}");
+        }
+    }
+    calls.finish();
+}
