@@ -1,6 +1,6 @@
 # What can be made here. `make` alone lists it.
 
-.PHONY: help run test lib bench clean
+.PHONY: help run test lib bench figures clean
 .NOTPARALLEL:
 
 # Cargo builds below target/ too, over the library just made.
@@ -11,6 +11,7 @@ help:
 	@echo 'make test    the gate: prove everything from nothing, then test the library just proved'
 	@echo 'make lib     prove the library and write target/staticlib/libcahermisk.a'
 	@echo 'make bench   the library, then its speed beside Rust loops for the same job'
+	@echo 'make figures what the last `make test` saw, into docs/FIGURES.md and the end of docs/SHAMS.md'
 	@echo 'make clean   remove what was built (target/)'
 
 # Nothing is shown of the proofs unless one fails.
@@ -27,6 +28,12 @@ lib: need-rt
 
 bench: need-cargo lib
 	@$(CARGO) bench --offline --locked --quiet --manifest-path rust/Cargo.toml
+
+# The two documents that tell what a gate saw.
+figures:
+	tools/figures >target/figures.md && mv target/figures.md docs/FIGURES.md
+	sed -i '/^## What was seen/,$$d' docs/SHAMS.md
+	{ echo '## What was seen'; echo; echo 'Printed by `tools/shams-seen` after `make test`: where the prover first refused each.'; echo; tools/shams-seen | sed 's/^/    /'; } >>docs/SHAMS.md
 
 clean:
 	rm -rf target
