@@ -1,6 +1,6 @@
 # What can be made here. `make` alone lists it.
 
-.PHONY: help run test lib bench figures clean
+.PHONY: help run test lib install bench figures clean
 .NOTPARALLEL:
 
 # Cargo builds below target/ too, over the library just made.
@@ -10,6 +10,7 @@ help:
 	@echo 'make run     prove the examples program and what it stands on, and run it'
 	@echo 'make test    the gate: prove everything from nothing, then test the library just proved'
 	@echo 'make lib     prove the library and write target/staticlib/libcahermisk.a'
+	@echo 'make install the library, its header and cahermisk.pc below PREFIX (/usr/local), or DESTDIR/PREFIX'
 	@echo 'make bench   the library, then its speed beside Rust loops for the same job'
 	@echo 'make figures what the last `make test` saw, into docs/FIGURES.md and the end of docs/SHAMS.md'
 	@echo 'make clean   remove what was built (target/)'
@@ -25,6 +26,11 @@ test: need-rt need-cargo need-cc need-c++
 lib: need-rt
 	rt check cahermisk
 	tools/native-lib
+
+PREFIX = /usr/local
+
+install: lib
+	tools/install '$(PREFIX)' '$(DESTDIR)'
 
 bench: need-cargo lib
 	@$(CARGO) bench --offline --locked --quiet --manifest-path rust/Cargo.toml
