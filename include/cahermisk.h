@@ -11,8 +11,8 @@
  *    and not null, also where that length is 0;
  *  - a place lent for writing overlaps no other place of the same call, and
  *    nothing else reads or writes it during the call.
- * A length counts elements (bytes of a page or bitmap, words of bit planes,
- * places for entries).
+ * A length counts elements (bytes of a page, dictionary or bitmap, words of bit
+ * planes, places for entries).
  * The functions keep no state: threads may call them at the same time.
  */
 #ifndef CAHERMISK_H
@@ -30,6 +30,7 @@ extern "C" {
 /* The limits of a column. */
 #define CAHERMISK_MAX_WIDTH 32
 #define CAHERMISK_MAX_ENTRIES 16384
+#define CAHERMISK_MAX_DICTIONARY_BYTES 65536
 
 /* The code of an answer. */
 enum cahermisk_code {
@@ -47,6 +48,8 @@ enum cahermisk_code {
     CAHERMISK_RUN_PAST_N = 11,           /* run goes too far past n, or n are covered */
     CAHERMISK_DELTA_SHAPE = 12,          /* delta shape */
     CAHERMISK_DELTA_COUNT_NOT_N = 13,    /* delta count is not n */
+    CAHERMISK_MALFORMED_DICTIONARY = 14, /* dictionary: its length, or not ascending */
+    CAHERMISK_INDEX_TOO_LARGE = 15,      /* index not below the dictionary's count */
     CAHERMISK_UNNEEDED_WIDTH_NOT_0 = 16, /* width byte of an unneeded miniblock not 0 */
     CAHERMISK_MINIBLOCK_TOO_WIDE = 17    /* delta writer: it needs more than 32 bits */
 };
@@ -400,6 +403,55 @@ cahermisk_answer cahermisk_delta_unpack(const uint8_t *page, size_t page_len, si
  */
 cahermisk_answer cahermisk_delta_pack(const int32_t *entries, size_t entries_len,
                                       uint8_t *page, size_t page_len);
+
+/* ---- Dictionary columns ------------------------------------------------ */
+/*
+ * Entries are signed 32-bit numbers, kept as indexes of a dictionary.
+ *
+ * A dictionary is its values in 4 bytes each, low byte first, strictly ascending:
+ * at most CAHERMISK_MAX_DICTIONARY_BYTES in all. It may be empty. An index page is
+ * a width byte, 0 to 32, and then a run stream of n indexes of that width. Entry i
+ * is the value that index i counts to, from 0 on.
+ *
+ * A column's first fault is the first of
+ *   14 dict_len is no multiple of 4 or above CAHERMISK_MAX_DICTIONARY_BYTES, or a
+ *      value is not above the one before it
+ *   5  the width byte is missing
+ *   1  the width is above 32
+ *   then the stream's first fault in reading order, as of run streams
+ *   15 an index is not below dict_len / 4; those that fill the last group past n
+ *      may be anything
+ * The width byte is needed and judged also with n = 0.
+ */
+
+/*
+ * Compares each entry of a column, and sets bit i of the bitmap exactly if entry i
+ * satisfies the comparison.
+ * Reads the dictionary and the page; writes the first CAHERMISK_BITMAP_BYTES(n)
+ * bytes of the bitmap, the unused bits of the last one as 0, and keeps the later
+ * bytes.
+ * Refuses with the first of these that holds:
+ *   2  n above 16,384
+ *   3  op above 7
+ *   4  bitmap_len below CAHERMISK_BITMAP_BYTES(n)
+ *   then the column's first fault
+ */
+cahermisk_answer cahermisk_dictionary_scan(const uint8_t *dict, size_t dict_len,
+                                           const uint8_t *page, size_t page_len, size_t n,
+                                           uint32_t op, int64_t a, int64_t b,
+                                           uint8_t *bitmap, size_t bitmap_len);
+
+/*
+ * Writes the n entries of a column to the first n places of `entries`, and keeps
+ * the other places.
+ * Refuses with the first of these that holds:
+ *   2  n above 16,384
+ *   4  entries_len below n
+ *   then the column's first fault
+ */
+cahermisk_answer cahermisk_dictionary_unpack(const uint8_t *dict, size_t dict_len,
+                                             const uint8_t *page, size_t page_len, size_t n,
+                                             int32_t *entries, size_t entries_len);
 
 #ifdef __cplusplus
 }

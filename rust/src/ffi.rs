@@ -2,6 +2,7 @@
 #![allow(unsafe_code)]
 
 pub(crate) mod delta;
+pub(crate) mod dictionary;
 
 use crate::{Comparison, Refusal};
 

@@ -8,6 +8,7 @@
 //! - [`vertical`]: bit planes, entries of 0 to 32 bits in groups of 64, one word for each bit.
 //! - [`runs`]: run streams, the RLE/bit-packing hybrid: equal entries once, others packed by eight.
 //! - [`delta`]: delta pages, signed 32-bit entries kept as deltas from one to the next.
+//! - [`dictionary`]: dictionary columns, signed 32-bit entries kept as indexes of a dictionary.
 //!
 //! A [`Comparison`] is an [`Operator`] and two constants; a scan's result is a [`Bitmap`].
 //!
@@ -28,6 +29,7 @@
 mod bitmap;
 mod comparison;
 pub mod delta;
+pub mod dictionary;
 mod ffi;
 pub mod horizontal;
 mod layout;
@@ -46,6 +48,9 @@ pub const MAX_WIDTH: u32 = 32;
 
 /// The most entries a page may have.
 pub const MAX_ENTRIES: usize = 16_384;
+
+/// The most bytes a dictionary may have, four for each value.
+pub const MAX_DICTIONARY_BYTES: usize = 65_536;
 
 /// The examples of README.md, run as tests.
 #[cfg(doctest)]

@@ -33,6 +33,10 @@ pub enum Refusal {
     DeltaShape,
     /// 13: delta count is not n.
     DeltaCountNotN,
+    /// 14: dictionary: length no multiple of 4, over 65,536 bytes, or values not strictly ascending.
+    MalformedDictionary,
+    /// 15: index not below the dictionary's count.
+    IndexTooLarge,
     /// 16: width byte of an unneeded miniblock not 0.
     UnneededWidthNot0,
     /// 17: delta writer: a miniblock needs more than 32 bits.
@@ -66,6 +70,8 @@ impl Refusal {
             11 => Refusal::RunPastN,
             12 => Refusal::DeltaShape,
             13 => Refusal::DeltaCountNotN,
+            14 => Refusal::MalformedDictionary,
+            15 => Refusal::IndexTooLarge,
             16 => Refusal::UnneededWidthNot0,
             17 => Refusal::MiniblockTooWide,
             other => Refusal::Unknown(other),
@@ -88,6 +94,8 @@ impl Refusal {
             Refusal::RunPastN => 11,
             Refusal::DeltaShape => 12,
             Refusal::DeltaCountNotN => 13,
+            Refusal::MalformedDictionary => 14,
+            Refusal::IndexTooLarge => 15,
             Refusal::UnneededWidthNot0 => 16,
             Refusal::MiniblockTooWide => 17,
             Refusal::Unknown(code) => code,
@@ -111,6 +119,10 @@ impl fmt::Display for Refusal {
             Refusal::RunPastN => "run goes too far past n, or one run is asked for with n covered",
             Refusal::DeltaShape => "delta shape",
             Refusal::DeltaCountNotN => "delta count is not n",
+            Refusal::MalformedDictionary => {
+                "dictionary: length no multiple of 4, over 65,536 bytes, or values not strictly ascending"
+            }
+            Refusal::IndexTooLarge => "index not below the dictionary's count",
             Refusal::UnneededWidthNot0 => "width byte of an unneeded miniblock not 0",
             Refusal::MiniblockTooWide => "delta writer: a miniblock needs more than 32 bits",
             Refusal::Unknown(code) => return write!(f, "refused with code {code}"),

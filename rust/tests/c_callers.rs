@@ -37,7 +37,7 @@ const NEEDS_CC: &str = "this test needs a C compiler, cc, on PATH";
 const NEEDS_CXX: &str = "this test needs a C++ compiler, c++, on PATH";
 
 /// The header's names with document 01's numbers.
-const NUMBERS: [(&str, u32); 41] = [
+const NUMBERS: [(&str, u32); 44] = [
     ("CAHERMISK_ACCEPTED", 0),
     ("CAHERMISK_WIDTH_ABOVE_32", 1),
     ("CAHERMISK_TOO_MANY_ENTRIES", 2),
@@ -52,6 +52,8 @@ const NUMBERS: [(&str, u32); 41] = [
     ("CAHERMISK_RUN_PAST_N", 11),
     ("CAHERMISK_DELTA_SHAPE", 12),
     ("CAHERMISK_DELTA_COUNT_NOT_N", 13),
+    ("CAHERMISK_MALFORMED_DICTIONARY", 14),
+    ("CAHERMISK_INDEX_TOO_LARGE", 15),
     ("CAHERMISK_UNNEEDED_WIDTH_NOT_0", 16),
     ("CAHERMISK_MINIBLOCK_TOO_WIDE", 17),
     ("CAHERMISK_EQUAL", 0),
@@ -64,6 +66,7 @@ const NUMBERS: [(&str, u32); 41] = [
     ("CAHERMISK_NOT_BETWEEN", 7),
     ("CAHERMISK_MAX_WIDTH", 32),
     ("CAHERMISK_MAX_ENTRIES", 16_384),
+    ("CAHERMISK_MAX_DICTIONARY_BYTES", 65_536),
     ("sizeof(cahermisk_answer)", 8),
     ("CAHERMISK_BITMAP_BYTES(9)", 2),
     ("CAHERMISK_HORIZONTAL_BYTES(3, 9)", 4),
@@ -106,6 +109,8 @@ static uint8_t page[CAHERMISK_HORIZONTAL_BYTES(3, 8)];
 static uint64_t words[CAHERMISK_VERTICAL_WORDS(3, 8)];
 static uint8_t stream[CAHERMISK_RUNS_BYTES(3, 8)];
 static uint8_t steps[CAHERMISK_DELTA_BYTES(8)];
+static uint8_t values[CAHERMISK_MAX_DICTIONARY_BYTES];
+static const uint8_t indexes[] = {0x00, 0x10};
 static uint8_t bitmap[CAHERMISK_BITMAP_BYTES(8)];
 static int32_t numbers[CAHERMISK_MAX_ENTRIES];
 static uint32_t entries[CAHERMISK_MAX_ENTRIES];
@@ -128,12 +133,17 @@ int all_ends_well(void) {
     cahermisk_answer stepped = cahermisk_delta_unpack(steps, written.number, 8, numbers, 8);
     cahermisk_answer passed = cahermisk_delta_scan(steps, written.number, 8,
         CAHERMISK_LESS, -1, 0, bitmap, sizeof bitmap);
+    cahermisk_answer looked_up = cahermisk_dictionary_unpack(values, 4, indexes, sizeof indexes, 8,
+        numbers, 8);
+    cahermisk_answer compared = cahermisk_dictionary_scan(values, sizeof values,
+        indexes, sizeof indexes, 8, CAHERMISK_LESS, -1, 0, bitmap, sizeof bitmap);
     return packed.code == CAHERMISK_ACCEPTED && unpacked.number == 8
         && scanned.code != CAHERMISK_VALUE_TOO_LARGE
         && planes.number == 3 && read.number == 8 && found.code == CAHERMISK_ACCEPTED
         && laid.number == 8 && marked.code != CAHERMISK_RUN_PAST_N
         && run.kind == CAHERMISK_REPEATED && run.length == 8 && run.body_len == 0
-        && stepped.number == 8 && passed.code != CAHERMISK_DELTA_SHAPE;
+        && stepped.number == 8 && passed.code != CAHERMISK_DELTA_SHAPE
+        && looked_up.number == 8 && compared.code == CAHERMISK_MALFORMED_DICTIONARY;
 }
 ";
 

@@ -2,10 +2,12 @@
 
 mod bare;
 mod delta;
+mod dictionary;
 mod horizontal;
 mod layouts;
 mod raw;
 mod reader;
 mod runs;
+mod signed;
 mod support;
 mod vertical;

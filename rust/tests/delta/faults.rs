@@ -1,6 +1,8 @@
 //! Where several codes could be given, the first is: 2, 3, 4, and then the first fault in reading order.
 
-use crate::reader::delta::{page_of, Scan, Unpack};
+use crate::reader::delta::{page_of, Delta};
+use crate::reader::numbers::shortest;
+use crate::signed::order::under_any_set_of_faulty_arguments;
 use crate::support::calls::Calls;
 
 /// Headers of 34 entries with a fault, and its code. Where one of them has a second fault, that comes later in
@@ -65,30 +67,27 @@ fn faulty() -> Vec<(Vec<u8>, u32)> {
 fn faulty_pages_under_any_set_of_faulty_arguments() {
     let mut calls = Calls::of_delta("codes in order");
     for (page, in_page) in faulty() {
-        for set in 0..8u32 {
-            let [count, operator, short] = [1, 2, 4].map(|fault| set & fault != 0);
-            let n: usize = if count { 16_385 } else { 34 };
-            let first = |faults: &[(bool, u32)]| {
-                let found = faults.iter().find(|(fault, _)| *fault);
-                found.map_or(in_page, |&(_, code)| code)
-            };
-            let scanned = calls.scan_delta(&Scan {
-                page: &page,
-                n,
-                op: if operator { 8 } else { 2 },
-                a: 3,
-                b: 0,
-                bitmap: &vec![0xA5; n.div_ceil(8) - usize::from(short)],
-            });
-            let code = first(&[(count, 2), (operator, 3), (short, 4)]);
-            assert_eq!(scanned.code, code, "scan of {page:02x?}, faults {set}");
-            let unpacked = calls.unpack_delta(&Unpack {
-                page: &page,
-                n,
-                entries: &vec![99; n - usize::from(short)],
-            });
-            let code = first(&[(count, 2), (short, 4)]);
-            assert_eq!(unpacked.code, code, "unpack of {page:02x?}, faults {set}");
+        under_any_set_of_faulty_arguments(&mut calls, &Delta(page), 34, in_page);
+    }
+    calls.finish();
+}
+
+/// A page that says it has more than 16,384 entries is 13: only the argument is 2.
+#[test]
+fn the_count_in_the_page() {
+    let mut calls = Calls::of_delta("counts in the page");
+    for n in [0, 1, 16_384] {
+        for count in [
+            n + 1,
+            n + (1 << 14),
+            n + (1 << 16),
+            n + (1 << 31),
+            u32::MAX as usize,
+        ] {
+            let mut page = vec![0x80, 0x01, 0x04];
+            page.extend(shortest(count as u64));
+            page.push(0);
+            assert_eq!(calls.read_delta(&page, n), 13, "n {n}, count {count}");
         }
     }
     calls.finish();

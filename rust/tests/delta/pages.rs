@@ -12,7 +12,6 @@ pub const COUNTS: [usize; 26] = [
     0, 1, 2, 3, 8, 31, 32, 33, 34, 35, 64, 65, 66, 96, 97, 98, 127, 128, 129, 130, 131, 161, 256,
     257, 258, 386,
 ];
-pub const LARGE_COUNTS: [usize; 5] = [1000, 2049, 4097, 16_383, 16_384];
 
 /// Entries with steps of a width above a smallest one, wrapping. Now and then a miniblock's steps are of a lesser
 /// width.
@@ -120,26 +119,4 @@ fn block_of(deltas: &[i32], shape: Shape, random: &mut Random) -> Vec<u8> {
     );
     block.extend(bodies);
     block
-}
-
-/// Constants where a comparison may go wrong: the ends of all number ranges on the way, one of the page's
-/// entries with its neighbours, and numbers that look like that entry once they are cut.
-pub fn constants(entries: &[i32], random: &mut Random) -> Vec<i64> {
-    let x = match entries {
-        [] => 0,
-        some => i64::from(random.pick(some)),
-    };
-    let mut all = vec![i64::MIN, i64::MIN + 1, -1, 0, 1, i64::MAX - 1, i64::MAX];
-    for end in [
-        i64::from(i32::MIN),
-        i64::from(i32::MAX),
-        1 << 32,
-        -(1 << 32),
-    ] {
-        all.extend([end - 1, end, end + 1]);
-    }
-    all.extend([x - 1, x, x + 1, -x, x + (1 << 32), x - (1 << 32)]);
-    all.extend([x ^ i64::MIN, x ^ (1 << 31), random.bits() as i64]);
-    all.push(i64::from(random.bits() as i32));
-    all
 }

@@ -1,8 +1,13 @@
 //! The second reader by itself: document 01's examples, and what it writes read back.
 
 use super::pages::{any_shape, entries, of_another_writer, COUNTS};
-use crate::reader::delta::{page_of, read};
+use crate::reader::delta::{page_of, Delta};
+use crate::reader::signed::Column;
 use crate::support::random::Random;
+
+fn read(page: &[u8], n: usize) -> Result<Vec<i32>, u32> {
+    Delta(page.to_vec()).read(n)
+}
 
 #[test]
 fn document_01() {

@@ -1,6 +1,7 @@
 //! Block sizes and miniblock counts: those that a page may have, and all others.
 
-use super::pages::{any_shape, entries, of_another_writer, shapes, Shape, COUNTS, LARGE_COUNTS};
+use super::pages::{any_shape, entries, of_another_writer, shapes, Shape, COUNTS};
+use crate::signed::comparisons::LARGE_COUNTS;
 use crate::support::calls::Calls;
 use crate::support::spelling::any_spelling;
 

@@ -1,9 +1,13 @@
 //! The writer: pages as document 01 has them, and read back.
 
-use super::pages::{entries, COUNTS, LARGE_COUNTS};
+use super::pages::{entries, COUNTS};
+use crate::raw::{cahermisk_delta_pack, Answer};
 use crate::reader::delta::{page_of, Pack};
+use crate::signed::comparisons::LARGE_COUNTS;
 use crate::support::calls::Calls;
+use crate::support::fenced::{Edge, Fenced};
 use crate::support::lent::FILLINGS;
+use crate::support::random::Random;
 
 /// Packs a list into room that is just enough, and unpacks it. What the header calls enough is enough.
 fn there_and_back(calls: &mut Calls, list: &[i32]) -> Vec<u8> {
@@ -136,4 +140,44 @@ fn packs_at_random() {
         });
     }
     calls.finish();
+}
+
+/// Each place from none to some more than enough, under every filling.
+#[test]
+fn outputs_short_exact_and_long() {
+    let mut calls = Calls::of_delta("packs into every length");
+    for (i, n) in COUNTS.into_iter().enumerate() {
+        let entries = entries(i as u32, n, &mut calls.random);
+        let exact = page_of(&entries).len();
+        for filling in FILLINGS {
+            for room in [0, 4, 5, exact - 1, exact, exact + 9] {
+                let packed = calls.pack_delta(&Pack {
+                    entries: &entries,
+                    page: &vec![filling; room],
+                });
+                assert_eq!(packed.code, if room < exact { 4 } else { 0 });
+            }
+        }
+    }
+    calls.finish();
+}
+
+/// Lists and pages that end or begin where memory does.
+#[test]
+fn nothing_is_read_outside_the_places() {
+    let mut random = Random::new("delta fences of packs");
+    for width in 0..=32 {
+        for n in COUNTS.into_iter().chain([16_384]) {
+            let list = entries(width, n, &mut random);
+            let room = page_of(&list);
+            for edge in [Edge::End, Edge::Start] {
+                let [mut input, mut output] = [Fenced::new(), Fenced::new()];
+                let (from, to) = (input.lay(edge, &list), output.lay(edge, &room));
+                // SAFETY: the places are valid for their lengths, aligned, and stand apart.
+                let packed = unsafe { cahermisk_delta_pack(from, n, to, room.len()) };
+                let number = room.len() as u32;
+                assert_eq!(packed, Answer { code: 0, number }, "n {n}");
+            }
+        }
+    }
 }

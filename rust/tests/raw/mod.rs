@@ -115,4 +115,27 @@ extern "C" {
         page: *mut u8,
         page_len: usize,
     ) -> Answer;
+
+    pub fn cahermisk_dictionary_scan(
+        dict: *const u8,
+        dict_len: usize,
+        page: *const u8,
+        page_len: usize,
+        n: usize,
+        op: u32,
+        a: i64,
+        b: i64,
+        bitmap: *mut u8,
+        bitmap_len: usize,
+    ) -> Answer;
+
+    pub fn cahermisk_dictionary_unpack(
+        dict: *const u8,
+        dict_len: usize,
+        page: *const u8,
+        page_len: usize,
+        n: usize,
+        entries: *mut i32,
+        entries_len: usize,
+    ) -> Answer;
 }

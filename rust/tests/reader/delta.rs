@@ -1,10 +1,15 @@
 //! Delta pages: a header, and then blocks of deltas in miniblocks.
 
 use super::bare::Bare;
-use super::calls::{packed, scanned, unpacked, within_limits, Rules};
+use super::calls::{packed, Rules};
 use super::horizontal::Horizontal;
-use super::numbers::{byte, number, shortest, zigzag, zigzag_of};
-use super::{refused, satisfies, Outcome};
+use super::numbers::{byte, number, shortest, wrapped, zigzag, zigzag_of};
+use super::signed::Column;
+use super::{refused, Outcome};
+
+/// A page.
+#[derive(Clone)]
+pub struct Delta(pub Vec<u8>);
 
 /// What a good header says.
 struct Header {
@@ -85,37 +90,29 @@ fn block(page: &[u8], header: &Header, left: usize, at: usize) -> Result<(Vec<i6
     Ok((deltas, at))
 }
 
-/// A number wrapping in 32 bits.
-fn wrapped(number: i64) -> i32 {
-    let remainder = number.rem_euclid(1 << 32);
-    let signed = if remainder < 1 << 31 {
-        remainder
-    } else {
-        remainder - (1 << 32)
-    };
-    i32::try_from(signed).expect("a signed number of 32 bits")
-}
-
-/// The n entries of a page, or its first fault in reading order. Entry 0 is the first value; each later entry is
-/// the one before plus smallest delta plus packed number. With n = 0 the first value is read and not used.
-pub fn read(page: &[u8], n: usize) -> Result<Vec<i32>, u32> {
-    let (header, mut at) = header(page, n)?;
-    let mut last = wrapped(header.first);
-    let mut entries = vec![last];
-    while entries.len() < n {
-        let left = n - entries.len();
-        let (deltas, next) = block(page, &header, left, at)?;
-        for delta in deltas.into_iter().take(left) {
-            last = wrapped(i64::from(last) + delta);
-            entries.push(last);
+impl Column for Delta {
+    /// The first fault in reading order. Entry 0 is the first value; each later entry is the one before plus smallest
+    /// delta plus packed number. With n = 0 the first value is read and not used.
+    fn read(&self, n: usize) -> Result<Vec<i32>, u32> {
+        let Delta(page) = self;
+        let (header, mut at) = header(page, n)?;
+        let mut last = wrapped(header.first);
+        let mut entries = vec![last];
+        while entries.len() < n {
+            let left = n - entries.len();
+            let (deltas, next) = block(page, &header, left, at)?;
+            for delta in deltas.into_iter().take(left) {
+                last = wrapped(i64::from(last) + delta);
+                entries.push(last);
+            }
+            at = next;
         }
-        at = next;
+        if at < page.len() {
+            return Err(6);
+        }
+        entries.truncate(n);
+        Ok(entries)
     }
-    if at < page.len() {
-        return Err(6);
-    }
-    entries.truncate(n);
-    Ok(entries)
 }
 
 /// The wrapped deltas of the entries from the second on.
@@ -172,37 +169,6 @@ pub fn page_of(entries: &[i32]) -> Vec<u8> {
         page.extend(block_of(block));
     }
     page
-}
-
-pub struct Scan<'a> {
-    pub page: &'a [u8],
-    pub n: usize,
-    pub op: u32,
-    pub a: i64,
-    pub b: i64,
-    pub bitmap: &'a [u8],
-}
-
-/// 2, 3, 4, then reading order.
-pub fn scan(call: &Scan) -> Outcome<u8> {
-    let Scan { page, n, .. } = *call;
-    let short = call.bitmap.len() < n.div_ceil(8);
-    let read = within_limits(n, Some(call.op), short, || read(page, n));
-    let holds = |x| satisfies(call.op, x, call.a.into(), call.b.into());
-    scanned(read, holds, call.bitmap)
-}
-
-pub struct Unpack<'a> {
-    pub page: &'a [u8],
-    pub n: usize,
-    pub entries: &'a [i32],
-}
-
-/// 2, 4, then reading order.
-pub fn unpack(call: &Unpack) -> Outcome<i32> {
-    let Unpack { page, n, .. } = *call;
-    let read = within_limits(n, None, call.entries.len() < n, || read(page, n));
-    unpacked(read, call.entries)
 }
 
 pub struct Pack<'a> {

@@ -4,9 +4,11 @@
 pub mod bare;
 pub mod calls;
 pub mod delta;
+pub mod dictionary;
 pub mod horizontal;
 pub mod numbers;
 pub mod runs;
+pub mod signed;
 pub mod vertical;
 
 /// What a call must leave behind: its answer, and all that the place lent for writing holds.

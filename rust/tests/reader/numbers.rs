@@ -1,4 +1,4 @@
-//! Variable-length numbers, and the bytes they are read from.
+//! Variable-length numbers, the bytes they are read from, and signed numbers of 32 bits.
 
 use super::bit;
 
@@ -54,4 +54,15 @@ pub fn zigzag_of(k: i64) -> u64 {
     } else {
         2 * (-k - 1) as u64 + 1
     }
+}
+
+/// A number wrapping in 32 bits.
+pub fn wrapped(number: i64) -> i32 {
+    let remainder = number.rem_euclid(1 << 32);
+    let signed = if remainder < 1 << 31 {
+        remainder
+    } else {
+        remainder - (1 << 32)
+    };
+    i32::try_from(signed).expect("a signed number of 32 bits")
 }

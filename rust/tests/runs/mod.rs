@@ -14,7 +14,7 @@ mod calls;
 mod faults;
 mod next;
 mod offsets;
-mod streams;
+pub mod streams;
 mod writer;
 
 impl Layout for Runs {

@@ -24,8 +24,7 @@ impl Calls {
         }
     }
 
-    /// Makes one call on places that hold `input` and `output`, and panics unless it answers `want`,
-    /// leaves what `want` says, and changes neither its input nor a guard. Gives what it left.
+    /// As `check_inputs`, of a call that is lent one place for reading.
     pub fn check<I: Filled, O: Filled + LowerHex>(
         &mut self,
         input: &[I],
@@ -34,16 +33,32 @@ impl Calls {
         call: impl FnOnce(&Lent<I>, &mut Lent<O>) -> Answer,
         described: impl FnOnce() -> String,
     ) -> Outcome<O> {
-        let (guard, shift) = self.next_guard();
-        let input_place = Lent::new(input, guard, shift);
-        let mut output_place = Lent::new(output, guard, shift);
-        let Answer { code, number } = call(&input_place, &mut output_place);
+        let call = |places: &[Lent<I>], output: &mut Lent<O>| call(&places[0], output);
+        self.check_inputs(&[input], output, want, call, described)
+    }
 
+    /// Makes one call on places that hold `inputs` and `output`, and panics unless it answers `want`,
+    /// leaves what `want` says, and changes neither an input nor a guard. Gives what it left.
+    pub fn check_inputs<I: Filled, O: Filled + LowerHex>(
+        &mut self,
+        inputs: &[&[I]],
+        output: &[O],
+        want: Outcome<O>,
+        call: impl FnOnce(&[Lent<I>], &mut Lent<O>) -> Answer,
+        described: impl FnOnce() -> String,
+    ) -> Outcome<O> {
+        let (guard, shift) = self.next_guard();
+        let places = inputs.iter().map(|input| Lent::new(input, guard, shift));
+        let places: Vec<Lent<I>> = places.collect();
+        let mut output_place = Lent::new(output, guard, shift);
+        let Answer { code, number } = call(&places, &mut output_place);
+
+        let mut lent = places.iter().zip(inputs);
         let fault = if (code, number) != (want.code, want.number) {
             format!("answered ({code}, {number})")
-        } else if input_place.held() != input {
+        } else if lent.any(|(place, input)| place.held() != *input) {
             "changed its input".to_string()
-        } else if !input_place.guards_kept() || !output_place.guards_kept() {
+        } else if !places.iter().all(Lent::guards_kept) || !output_place.guards_kept() {
             "wrote outside the place lent".to_string()
         } else if let Some(i) = first_difference(output_place.held(), &want.held) {
             format!("left {:x} in place {i}", output_place.held()[i])

@@ -51,9 +51,19 @@ impl<'a> Row<'a> {
         label: &str,
         element: fn(&str) -> Result<T, String>,
     ) -> Result<Vec<T>, String> {
+        self.list_up_to(ARROW, label, element)
+    }
+
+    /// All elements up to another label or the row's end, behind their own.
+    pub fn list_up_to<T>(
+        &mut self,
+        end: &str,
+        label: &str,
+        element: fn(&str) -> Result<T, String>,
+    ) -> Result<Vec<T>, String> {
         self.label(label)?;
         let mut list = Vec::new();
-        while let Some(word) = self.0.next_if(|&word| word != ARROW) {
+        while let Some(word) = self.0.next_if(|&word| word != end) {
             let (word, times) = repeated(word)?;
             for _ in 0..times {
                 list.push(element(word)?);

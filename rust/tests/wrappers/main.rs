@@ -1,6 +1,7 @@
 //! The package's safe functions: what they give, each refusal, and no panic at any argument.
 
 mod delta;
+mod dictionary;
 mod layout;
 mod limits;
 mod names;

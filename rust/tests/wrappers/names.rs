@@ -2,7 +2,7 @@
 
 use cahermisk::{Operator, Refusal};
 
-const REFUSALS: [(Refusal, u32, &str); 15] = [
+const REFUSALS: [(Refusal, u32, &str); 17] = [
     (Refusal::WidthAbove32, 1, "width above 32"),
     (Refusal::TooManyEntries, 2, "more than 16,384 entries"),
     (Refusal::OperatorAbove7, 3, "operator above 7"),
@@ -28,6 +28,16 @@ const REFUSALS: [(Refusal, u32, &str); 15] = [
     ),
     (Refusal::DeltaShape, 12, "delta shape"),
     (Refusal::DeltaCountNotN, 13, "delta count is not n"),
+    (
+        Refusal::MalformedDictionary,
+        14,
+        "dictionary: length no multiple of 4, over 65,536 bytes, or values not strictly ascending",
+    ),
+    (
+        Refusal::IndexTooLarge,
+        15,
+        "index not below the dictionary's count",
+    ),
     (
         Refusal::UnneededWidthNot0,
         16,
