@@ -1,9 +1,7 @@
 // Delta pages: Parquet's two examples in blocks of 128 with 4 miniblocks, and with their own block size of 8, which is refused; pages that other writers may write.
 use crate::rows::GAVE;
 use crate::rows::refused;
-use crate::rows::told;
-use crate::signed_entries::entries;
-use crate::signed_entries::same;
+use crate::signed_entries::read;
 use delta::reading::unpack;
 use lines::Line;
 use lines::topic;
@@ -80,11 +78,7 @@ fn asked(page: &[u8], n: usize) -> Line {
 fn reads(page: &[u8], published: &[i32]) -> bool {
     let mut places = [0i32; 16];
     let answer = unpack(page, published.len(), &mut places);
-    let agrees = answer.code == 0
-        && answer.number as usize == published.len()
-        && same(&places, published);
-    let line = asked(page, published.len()).words(b"reads");
-    told(entries(line, &places, answer.number as usize), agrees)
+    read(asked(page, published.len()), answer, &places, published)
 }
 
 fn refuses(page: &[u8], n: usize, code: u32) -> bool {

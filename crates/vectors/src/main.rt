@@ -1,5 +1,6 @@
 // Published vectors, run through the proved functions and compared: document 01's examples that are not in the proved table, and Parquet's own.
 mod delta_pages;
+mod dictionary_columns;
 mod horizontal_pages;
 mod rows;
 mod run_streams;
@@ -10,7 +11,11 @@ use lines::topic;
 
 fn main() {
     say(b"Published vectors: what was asked, what the proved function gave");
-    if horizontal_pages::shown() & run_streams::shown() & delta_pages::shown() {
+    if horizontal_pages::shown()
+        & run_streams::shown()
+        & delta_pages::shown()
+        & dictionary_columns::shown()
+    {
         topic(b"Every answer is as published.");
     } else {
         topic(b"NOT every answer is as published.");
