@@ -4,6 +4,7 @@
 mod clock;
 mod column;
 mod delta;
+mod dictionary;
 mod horizontal;
 mod race;
 mod runs;
@@ -22,4 +23,5 @@ fn main() {
     vertical::report();
     runs::report();
     delta::report();
+    dictionary::report();
 }

@@ -2,7 +2,7 @@
 
 mod best;
 pub mod obvious;
-mod stream;
+pub mod stream;
 
 use std::hint::black_box;
 

@@ -36,7 +36,11 @@ impl Shape {
 
     /// The stream of entries without a pattern, but for those that its repeated runs make equal.
     pub fn stream(self, width: u32) -> Vec<u8> {
-        let entries = entries(width);
+        self.stream_of(&entries(width), width)
+    }
+
+    /// The same of other entries, as many.
+    pub fn stream_of(self, entries: &[u32], width: u32) -> Vec<u8> {
         let mut page = Vec::new();
         let mut at = 0;
         for i in 0.. {

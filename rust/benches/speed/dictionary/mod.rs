@@ -1,0 +1,100 @@
+//! Dictionary columns: scan and unpack over runs of indexes of different shapes.
+
+mod obvious;
+
+use std::hint::black_box;
+
+use cahermisk::{dictionary, Comparison};
+
+use crate::column::{band, entries, ENTRIES};
+use crate::race::race;
+use crate::runs::stream::Shape;
+use crate::table::heading;
+
+/// The widths that a dictionary's indexes need.
+const WIDTHS: [u32; 14] = [1, 2, 3, 4, 5, 6, 7, 8, 9, 10, 11, 12, 13, 14];
+
+/// Three quarters of the values that indexes of a width count, as a dictionary might have, or all of them: then no
+/// index can be too large.
+#[derive(Clone, Copy)]
+enum Values {
+    Most,
+    All,
+}
+
+impl Values {
+    fn count(self, width: u32) -> u32 {
+        match self {
+            Values::Most => (3u32 << width).div_ceil(4),
+            Values::All => 1 << width,
+        }
+    }
+}
+
+const MIXTURE: &str = "repeated runs of 8 to 40 and packed runs of 1 to 8 groups";
+
+pub fn report() {
+    println!(
+        "\nobvious: safe Rust, indexes read into a list, packed ones by eight with constant shifts; then each looked up and compared."
+    );
+    println!("A width is that of the indexes; the dictionary has three quarters of the values that they count.");
+    scans(MIXTURE, Shape::Mixed, Values::Most);
+    let all = format!("{MIXTURE}, as many values as the width counts");
+    scans(&all, Shape::Mixed, Values::All);
+    scans("long repeated runs", Shape::Long, Values::Most);
+    heading(
+        "Dictionary unpack, 16,384 entries, the same mixture",
+        &["obvious"],
+    );
+    WIDTHS.into_iter().for_each(unpack);
+}
+
+fn scans(title: &str, shape: Shape, values: Values) {
+    let title = format!("Dictionary scan, 16,384 entries, {title}");
+    heading(&title, &["obvious"]);
+    for width in WIDTHS {
+        scan(width, shape, values);
+    }
+}
+
+/// The value of an index: values go up by 5, from below 0.
+fn value(index: u32) -> i32 {
+    5 * index as i32 - 1000
+}
+
+/// A dictionary and an index page without a pattern.
+fn column(width: u32, shape: Shape, values: Values) -> (Vec<u8>, Vec<u8>) {
+    let count = values.count(width);
+    let indexes = entries(width).into_iter();
+    let indexes: Vec<u32> = indexes.map(|index| (index * count) >> width).collect();
+    let mut page = vec![width as u8];
+    page.extend(shape.stream_of(&indexes, width));
+    let dictionary = (0..count).flat_map(|index| value(index).to_le_bytes());
+    (dictionary.collect(), page)
+}
+
+fn scan(width: u32, shape: Shape, values: Values) {
+    let (values, page) = column(width, shape, values);
+    let (low, high) = band(width);
+    let (low, high) = (value(low), value(high));
+    let between = Comparison::between(low.into(), high.into());
+    let ours = |bitmap: &mut [u8]| {
+        let count = dictionary::scan(black_box(&values), &page, ENTRIES, between, bitmap);
+        count.expect("a good column")
+    };
+    let obvious = |bitmap: &mut [u8]| {
+        let count = obvious::scan(black_box(&values), &page, ENTRIES, low, high, bitmap);
+        count.expect("a good column")
+    };
+    race(width, &[0xA5; ENTRIES / 8], &[&ours, &obvious]);
+}
+
+fn unpack(width: u32) {
+    let (values, page) = column(width, Shape::Mixed, Values::Most);
+    let ours = |list: &mut [i32]| {
+        dictionary::unpack(black_box(&values), &page, ENTRIES, list).expect("a good column")
+    };
+    let obvious =
+        |list: &mut [i32]| obvious::unpack(black_box(&values), &page, list).expect("a good column");
+    race(width, &[0xA5; ENTRIES], &[&ours, &obvious]);
+}

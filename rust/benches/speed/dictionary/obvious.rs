@@ -1,0 +1,52 @@
+//! The obvious Rust: indexes are read into a list, then each is looked up among the values and compared.
+
+use crate::runs::obvious::unpack as unpack_indexes;
+
+/// The values of a dictionary, if they ascend.
+fn values(dictionary: &[u8]) -> Option<Vec<i32>> {
+    let (fours, rest) = dictionary.as_chunks();
+    let values: Vec<i32> = fours.iter().map(|&four| i32::from_le_bytes(four)).collect();
+    let ascend = values.windows(2).all(|pair| pair[0] < pair[1]);
+    (rest.is_empty() && dictionary.len() <= 65_536 && ascend).then_some(values)
+}
+
+/// The n indexes of a page, of a width from 1 to 32.
+fn indexes(page: &[u8], n: usize) -> Option<Vec<u32>> {
+    let (&width, stream) = page.split_first()?;
+    let mut indexes = vec![0; n];
+    let good = (1..=32).contains(&width);
+    let read = good.then(|| unpack_indexes(stream, width.into(), &mut indexes));
+    read.flatten().map(|_| indexes)
+}
+
+/// Looks up as many entries as there are places, and gives their number.
+pub fn unpack(dictionary: &[u8], page: &[u8], entries: &mut [i32]) -> Option<usize> {
+    let values = values(dictionary)?;
+    let indexes = indexes(page, entries.len())?;
+    for (place, &index) in entries.iter_mut().zip(&indexes) {
+        *place = *values.get(index as usize)?;
+    }
+    Some(indexes.len())
+}
+
+/// Selects the entries from low to high, and counts them.
+pub fn scan(
+    dictionary: &[u8],
+    page: &[u8],
+    n: usize,
+    low: i32,
+    high: i32,
+    bitmap: &mut [u8],
+) -> Option<usize> {
+    let values = values(dictionary)?;
+    let mut count = 0;
+    for (byte, eight) in bitmap.iter_mut().zip(indexes(page, n)?.chunks(8)) {
+        *byte = 0;
+        for (k, &index) in eight.iter().enumerate() {
+            let value = *values.get(index as usize)?;
+            *byte |= u8::from((low <= value) & (value <= high)) << k;
+        }
+        count += byte.count_ones() as usize;
+    }
+    Some(count)
+}
