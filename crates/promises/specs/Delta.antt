@@ -1,6 +1,7 @@
 -- Delta pages are a layout of signed entries of W bits with a writer, and their three contracts are its. What the writer writes is read back.
 use mathlib.Core.Path.{_≡_, refl}
 use mathlib.Core.List.{List}
+use mathlib.Core.Logic.{Iff·rfl}
 use Prim.Native.Nat.{ℕ, _<_, _≤_}
 use lib.IntN.{ℤ, pos}
 use lib.ListN.{length, take, getD}
@@ -17,8 +18,11 @@ use Rattle.promises.specs.Layouts.{Layout, scans, unpacks}
 use Rattle.promises.specs.Writers.{Writer, packs, packed-unpacks, packed-scans}
 use Rattle.promises.specs.Signed.{signed}
 
+-- a page is good where a reader finds no fault: a grammar of delta pages, apart from the reader, is a later request
 abbrev pub delta : ℕ → Layout (Unit {0}) ℤ
-delta W = signed (λ page k n. Delta.pageFault (Delta.read W n page)) (λ page k n. Delta.pageEntry W (Delta.read W n page))
+delta W =
+    signed (λ page k n. Delta.pageFault (Delta.read W n page)) (λ page k n. Delta.pageFault (Delta.read W n page) ≡ 0) (λ page k n. Iff·rfl)
+    (λ page k n. Delta.pageEntry W (Delta.read W n page))
 
 -- every list fits: 17 never arises. Entries are read back where they are signed numbers of W bits, as those lent are
 abbrev pub writer : (W : ℕ) → 0 < W → Writer (delta W)

@@ -6,7 +6,6 @@ use mathlib.Core.Logic.{_↔_, Iff·and, Iff·trans}
 use Prim.Native.Nat.{ℕ, _≤_}
 use native.Mathlib.Omega.{arith}
 use lib.Dec.{ltb}
-use lib.ListN.{length}
 use borrow.Author.Tests.{ltb-false, le-ltb}
 use Rattle.rules.specs.Bits.{ceil}
 use Rattle.rules.specs.Answer.{faulty, _then_, limitFault, operatorFault, roomFault, anyLarge, largeFault}

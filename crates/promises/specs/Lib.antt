@@ -16,5 +16,6 @@ pub mod Vertical
 pub mod Streams
 pub mod Signed
 pub mod Delta
+pub mod DictionaryFaults
 pub mod Dictionary
 pub mod OneRun
