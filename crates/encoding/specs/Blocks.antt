@@ -1,9 +1,8 @@
--- The page block by block, and how many bytes it takes.
+-- The page block by block.
 use mathlib.Core.Path.{_≡_, refl, sym, ap, ap₂, _∙_}
 use mathlib.Core.Bool.{Bool, true, false}
 use mathlib.Core.List.{List, [], _∷_, _++_}
-use Prim.Native.Nat.{ℕ, zero, suc, _+_, _-_, _*_, _≤_, _<_, min}
-use native.Mathlib.Nat.{suc-mul}
+use Prim.Native.Nat.{ℕ, zero, suc, _+_, _-_, _≤_, _<_, min}
 use native.Mathlib.Omega.{arith}
 use lib.Dec.{ltb}
 use lib.ListN.{length, take, drop, getD, length-append, length-drop, drop-of-length-le, replicate}
@@ -13,13 +12,10 @@ use lib.IntN.{ℤ, pos}
 use Rattle.rules.specs.Bits.{put}
 use Rattle.rules.specs.Signed.{zigzagOf}
 use Rattle.rules.specs.Shortest.{shortest}
-use Rattle.rules.specs.DeltaWriter.{deltas, least, aboveLeast, widthFor, widths, bodies, block, blocks, page}
+use Rattle.rules.specs.DeltaWriter.{deltas, least, aboveLeast, widths, bodies, block, blocks, page}
 use Rattle.words.specs.Puts.{length-put, put-put}
-use Rattle.varints.specs.Shortness.{shortest-size}
-use Rattle.signed.specs.Zigzags.{zigzagOf-lt}
-use Rattle.encoding.specs.Widths.{widths-le}
-use Rattle.encoding.specs.Minis.{Same, same-put, same-widths, same-bodies, length-widths, length-body}
-use Rattle.encoding.specs.Deltas.{length-deltas, length-above, AllWithin, deltas-within, least-within, within-take, within-drop}
+use Rattle.encoding.specs.Minis.{Same, same-put, same-widths, same-bodies, length-widths}
+use Rattle.encoding.specs.Deltas.{length-deltas, length-above}
 
 -- ---- one block after another
 
@@ -106,7 +102,7 @@ length-page W entries = ap length (page-is W entries) ∙ length-append (header 
 
 -- ---- a block by its numbers
 
-lengths : (a b c : List ℕ) → length (a ++ b ++ c) ≡ length a + length b + length c
+pub lengths : (a b c : List ℕ) → length (a ++ b ++ c) ≡ length a + length b + length c
 lengths a b c = simp length-append
 
 -- 128 numbers, those of the deltas filled up with 0, make the block
@@ -128,32 +124,3 @@ numbered W ds {smallest} {numbers} few e f =
       whole = whole;
       size = ap length whole ∙ lengths (shortest smallest) (widths 4 W numbers) (bodies 4 W numbers) ∙ rw (length-widths 4 W numbers);
     }
-
--- ---- how many bytes
-
--- 4 × W bytes a miniblock at most
-pub bodies-le : (j W : ℕ) (xs : List ℕ) → length (bodies j W xs) ≤ j * (4 * W)
-bodies-le zero W xs = omega arith
-bodies-le (suc j) W xs =
-    let w : ℕ = widthFor W (take 32 xs) in
-    rw (length-append, length-body, suc-mul j (4 * W)) (omega (arith, widths-le W (take 32 xs), bodies-le j W (drop 32 xs)))
-
--- for columns of 32 bits: 5 bytes, 4 width bytes, 4 × 128 bytes
-pub block-le : (ds : List ℤ) → AllWithin 32 ds → length (block 32 ds) ≤ 521
-unfolding block
-block-le ds h =
-    let zigzags = zigzagOf-lt 32 (least ds) (least-within 32 (omega arith) ds h) in
-    let xs : List ℕ = aboveLeast ds in
-    omega (arith, lengths (shortest (zigzagOf (least ds))) (widths 4 32 xs) (bodies 4 32 xs), length-widths 4 32 xs, bodies-le 4 32 xs, shortest-size 32 (zigzagOf (least ds)) zigzags .1)
-
-blocks-le : (turns : ℕ) (ds : List ℤ) → AllWithin 32 ds → length (blocks 32 turns ds) ≤ 521 * turns
-blocks-le zero ds h = omega arith
-blocks-le (suc turns) [] h = omega arith
-blocks-le (suc turns) (d ∷ ds) h =
-    let here = block-le (take 128 (d ∷ ds)) (within-take 32 (omega arith) 128 (d ∷ ds) h) in
-    let rest = blocks-le turns (drop 128 (d ∷ ds)) (within-drop 32 (omega arith) 128 (d ∷ ds) h) in
-    rw length-append (omega arith)
-
-pub all-blocks-le : (entries : List ℤ) → length entries ≤ 16384 → length (allBlocks 32 (deltas 32 entries)) ≤ 8536064
-all-blocks-le entries few =
-    omega (arith, blocks-le (length (deltas 32 entries)) (deltas 32 entries) (deltas-within 32 (omega arith) entries), length-deltas 32 entries)

@@ -2,7 +2,9 @@
 use mathlib.Core.Path.{_≡_, refl}
 use mathlib.Core.List.{List}
 use mathlib.Core.Logic.{Iff·rfl}
-use Prim.Native.Nat.{ℕ, _<_, _≤_}
+use Prim.Native.Nat.{ℕ, _+_, _*_, _/_, _<_, _≤_}
+use native.Mathlib.Nat.{le-trans}
+use native.Mathlib.Omega.{arith}
 use lib.IntN.{ℤ, pos}
 use lib.ListN.{length, take, getD}
 use Rattle.rules.specs.Bits.{ceil, put}
@@ -13,9 +15,10 @@ use Rattle.rules.specs.Delta as Delta
 use Rattle.rules.specs.DeltaWriter as DeltaWriter
 use Rattle.rules.specs.declared.Answer.{Answer}
 use Rattle.encoding.specs.Deltas.{AllWithin, no-wide-fault}
+use Rattle.encoding.specs.Sizes.{page-enough}
 use Rattle.encoding.specs.ReadBack.{fault-back, entries-back}
 use Rattle.promises.specs.Layouts.{Layout, scans, unpacks}
-use Rattle.promises.specs.Writers.{Writer, packs, packed-unpacks, packed-scans}
+use Rattle.promises.specs.Writers.{Writer, packs, pack-accepted, packed-unpacks, packed-scans}
 use Rattle.promises.specs.Signed.{signed}
 
 -- a page is good where a reader finds no fault: a grammar of delta pages, apart from the reader, is a later request
@@ -67,3 +70,10 @@ module _ (W : ℕ) (some : 0 < W) (entries : List ℤ) (before : List ℕ) {page
       ≡ scanned (operatorFault op then roomFault (length bitmap) (ceil (length entries) 8)) (length entries) (λ i. holds op a b (getD entries i (pos 0))) bitmap
   unfolding Delta.scan DeltaWriter.pack
   written-scans op a b bitmap = packed-scans (delta W) (writer W some) entries tt before contract ok held op a b (pos 0) bitmap
+
+-- CAHERMISK_DELTA_BYTES (include/cahermisk.h) is room for every list of 32-bit entries
+pub room-suffices : (entries : List ℤ) (before : List ℕ) {page : List ℕ} {r : Answer} → outcome r page ≡ DeltaWriter.pack 32 entries before
+    → AllWithin 32 entries → length entries ≤ 16384 → 11 + (length entries + 126) / 128 * 521 ≤ length before → r .code ≡ 0
+unfolding DeltaWriter.pack
+room-suffices entries before contract held few room =
+    pack-accepted (delta 32) (writer 32 (omega arith)) entries tt before contract .1 (few, (tt, le-trans (page-enough 32 (omega arith) entries few (held 0)) room))

@@ -3,7 +3,8 @@
 use mathlib.Core.Path.{_≡_, refl, subst}
 use mathlib.Core.List.{List}
 use mathlib.Core.Logic.{_↔_}
-use Prim.Native.Nat.{ℕ, _≤_}
+use Prim.Native.Nat.{ℕ, _+_, _*_, _/_, _≤_}
+use native.Mathlib.Nat.{le-trans}
 use lib.IntN.{ℤ, pos}
 use lib.ListN.{length, take, getD}
 use Rattle.rules.specs.Bits.{ceil, put}
@@ -16,12 +17,14 @@ use Rattle.rules.specs.RunWriter as RunWriter
 use Rattle.rules.specs.RunWriter.{stream}
 use Rattle.rules.specs.Grammar.{Cut}
 use Rattle.rules.specs.declared.Answer.{Answer}
+use Rattle.words.specs.Joined.{Small}
 use Rattle.runs.specs.Exact as Exact
+use Rattle.cutting.specs.Sizes.{stream-enough}
 use Rattle.cutting.specs.ReadBack.{stream-back, entries-back}
 use Rattle.promises.specs.Faults.{_and_}
 use Rattle.promises.specs.Layouts as Layouts
 use Rattle.promises.specs.Layouts.{Layout, scans, unpacks}
-use Rattle.promises.specs.Writers.{Writer, packs, packed-unpacks, packed-scans}
+use Rattle.promises.specs.Writers.{Writer, packs, pack-accepted, packed-unpacks, packed-scans}
 use Rattle.promises.specs.Unsigned.{unsigned, unsigned-writer}
 use Rattle.promises.specs.Scans.{Selects}
 use Rattle.promises.specs.Writes.{Fills}
@@ -103,3 +106,10 @@ module _ (entries : List ℕ) (w : ℕ) (before : List ℕ) {page : List ℕ} {r
       ≡ scanned (operatorFault op then roomFault (length bitmap) (ceil (length entries) 8)) (length entries) (λ i. holds op a b (pos (getD entries i 0))) bitmap
   unfolding Runs.scan RunWriter.pack
   written-scans op a b bitmap = packed-scans streams writer entries w before contract ok tt op a b 0 bitmap
+
+-- CAHERMISK_RUNS_BYTES (include/cahermisk.h) is room for every list that fits
+pub room-suffices : (entries : List ℕ) (w : ℕ) (before : List ℕ) {page : List ℕ} {r : Answer} → outcome r page ≡ RunWriter.pack entries w before
+    → w ≤ 32 → length entries ≤ 16384 → Small w entries → (length entries + 7) / 8 * (w + 1) ≤ length before → r .code ≡ 0
+unfolding RunWriter.pack
+room-suffices entries w before contract narrow few small room =
+    pack-accepted streams writer entries w before contract .1 ((narrow, few), (small, le-trans (stream-enough w entries few) room))

@@ -6,7 +6,8 @@ use lib.ListN.{length, take, drop, length-take}
 use Rattle.rules.specs.DeltaWriter.{deltas, block}
 use Rattle.varints.specs.Shortness.{shortest-size}
 use Rattle.encoding.specs.Deltas.{deltas-within, within-take, within-drop}
-use Rattle.encoding.specs.Blocks.{numbered, block-le}
+use Rattle.encoding.specs.Blocks.{numbered}
+use Rattle.encoding.specs.Sizes.{block-le}
 use borrow.Author.Needs.{needs}
 use Rattle.encoding.proofs.sizes.block_size.Statement.{statement}
 use Rattle.encoding.proofs.sizes.block_size.Tie as tie
@@ -47,7 +48,7 @@ add-result-2 c =
     let a = c .before .before .before .before .before .before .args in
     let all = deltas-within 32 (omega arith) (a .entries .now) in
     let ds = deltas 32 (a .entries .now) in
-    omega (arith, sized c, block-le (take (a .k) (drop (a .from) ds)) (within-take 32 (omega arith) (a .k) (drop (a .from) ds) (within-drop 32 (omega arith) (a .from) ds all)))
+    omega (arith, sized c, block-le 32 (omega arith) (take (a .k) (drop (a .from) ds)) (within-take 32 (omega arith) (a .k) (drop (a .from) ds) (within-drop 32 (omega arith) (a .from) ds all)))
 
 returns : tie.Need-returns
 returns c = sized c

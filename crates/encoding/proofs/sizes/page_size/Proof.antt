@@ -4,7 +4,8 @@ use Prim.Native.Nat.{ℕ, _+_, _-_, _≤_}
 use native.Mathlib.Omega.{arith}
 use lib.ListN.{length, drop}
 use Rattle.rules.specs.DeltaWriter.{deltas, page}
-use Rattle.encoding.specs.Blocks.{allBlocks, Begins, begins, blocks-past, length-page, all-blocks-le}
+use Rattle.encoding.specs.Blocks.{allBlocks, Begins, begins, blocks-past, length-page}
+use Rattle.encoding.specs.Sizes.{all-blocks-le}
 use borrow.Author.Needs.{needs}
 use Rattle.encoding.proofs.sizes.page_size.Statement.{statement}
 use Rattle.encoding.proofs.sizes.page_size.Tie as tie
@@ -19,10 +20,10 @@ header-size-requires : tie.Need-header-size-requires Inv-loop μ-loop
 header-size-requires c κs = search needs
 
 -- the page is not large
-small : (c : tie.After-header-size Inv-loop μ-loop) → length (page 32 (c .before .args .entries .now)) ≤ 8536084
+small : (c : tie.After-header-size Inv-loop μ-loop) → length (page 32 (c .before .args .entries .now)) ≤ 66708
 small c =
     let s = c .before .args .entries .now in
-    omega (arith, length-page 32 s, c .header-size .ensures .0, c .header-size .ensures .1, all-blocks-le s (c .before .pre))
+    omega (arith, length-page 32 s, c .header-size .ensures .0, c .header-size .ensures .1, all-blocks-le 32 (omega arith) s)
 
 -- the block of this turn
 next : (c : tie.After-below Inv-loop μ-loop) → Begins 32 (c .before .before .before .before .args .entries .now) (c .before .before .loop .from) (c .below .result)
