@@ -1,4 +1,5 @@
--- Delta pages are a layout of signed entries of W bits with a writer, and their three contracts are its. What the writer writes is read back.
+-- Delta pages are a layout of signed entries of W bits with a writer, and their three contracts are its. What the writer writes is read back,
+-- and there is a room that always suffices for it.
 use mathlib.Core.Path.{_≡_, refl}
 use mathlib.Core.List.{List}
 use mathlib.Core.Logic.{Iff·rfl}

@@ -1,5 +1,5 @@
 -- Run streams are a layout, and their three contracts are its. The third condition: a stream is accepted exactly if its bytes can be cut into runs by the
--- published grammar, none can be cut in two ways, and what is given is that of the entries so cut. What the writer writes is read back.
+-- published grammar, none can be cut in two ways, and what is given is that of the entries so cut. What the writer writes is read back, and there is a room that always suffices for it.
 use mathlib.Core.Path.{_≡_, refl, subst}
 use mathlib.Core.List.{List}
 use mathlib.Core.Logic.{_↔_}

@@ -1,4 +1,4 @@
--- Each stream that the grammar can cut is read as it is cut.
+-- Each run that stands there by the grammar is read, and each stream that the grammar can cut is read as it is cut.
 use mathlib.Core.Path.{_≡_, refl, sym, ap, _∙_}
 use mathlib.Core.List.{List, _++_, append-assoc}
 use Prim.Native.Nat.{ℕ, zero, suc, _+_, _-_, _*_, _/_, _%_, _^_, _<_, _≤_}
@@ -39,8 +39,9 @@ module _ (page t v rest : List ℕ) (at : ℕ) (e : drop at page ≡ (t ++ v) ++
   whole : at + length t + length v - at ≡ length (t ++ v)
   whole = omega (arith, length-append t v)
 
+-- one run, whatever is read on behind it
 module _ (w left : ℕ) (page : List ℕ) (at : ℕ) (rest : List ℕ) (onward : ℕ → ℕ → Stream) where
-  one-complete : {t : List ℕ} {p : Piece} → OneRun w left t p → drop at page ≡ t ++ rest
+  pub one-complete : {t : List ℕ} {p : Piece} → OneRun w left t p → drop at page ≡ t ++ rest
       → after w left page at onward (runAt w left page at) ≡ also p (onward (left - entries p) (at + length t))
   unfolding repeatedAt packedAt
   one-complete (repeats {count} t v d some fits size small) e =
