@@ -1,6 +1,6 @@
 # What can be made here. `make` alone lists it.
 
-.PHONY: help run test lib install bench figures clean
+.PHONY: help run test lib install bench stress figures clean
 .NOTPARALLEL:
 
 # Cargo builds below target/ too, over the library just made.
@@ -12,6 +12,7 @@ help:
 	@echo 'make lib     prove the library and write target/staticlib/libcahermisk.a'
 	@echo 'make install the library, its header and cahermisk.pc below PREFIX (/usr/local), or DESTDIR/PREFIX'
 	@echo 'make bench   the library, then its speed beside Rust loops for the same job'
+	@echo 'make stress  the library, then random and damaged pages for CAHERMISK_STRESS_SECONDS (120), beside the second reader'
 	@echo 'make figures what the last `make test` saw, into docs/FIGURES.md and the end of docs/SHAMS.md'
 	@echo 'make clean   remove what was built (target/)'
 
@@ -34,6 +35,9 @@ install: lib
 
 bench: need-cargo lib
 	@$(CARGO) bench --offline --locked --quiet --manifest-path rust/Cargo.toml
+
+stress: need-cargo need-cc lib
+	@$(CARGO) test --offline --locked --quiet --manifest-path rust/Cargo.toml --test library -- --ignored stress --nocapture
 
 # The two documents that tell what a gate saw.
 figures:

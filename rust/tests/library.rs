@@ -9,5 +9,6 @@ mod raw;
 mod reader;
 mod runs;
 mod signed;
+mod stress;
 mod support;
 mod vertical;

@@ -3,7 +3,7 @@
 mod bytes;
 mod calls;
 mod faults;
-mod pages;
+pub mod pages;
 mod reader;
 mod rows;
 mod shapes;
@@ -35,8 +35,8 @@ impl Signed for Delta {
         vec![&self.0]
     }
 
-    fn with_page(&self, page: &[u8]) -> Delta {
-        Delta(page.to_vec())
+    fn of_inputs(inputs: &[&[u8]]) -> Delta {
+        Delta(inputs[0].to_vec())
     }
 
     unsafe fn scan(

@@ -31,10 +31,10 @@ impl Signed for Dictionary {
         vec![&self.dict, &self.page]
     }
 
-    fn with_page(&self, page: &[u8]) -> Dictionary {
+    fn of_inputs(inputs: &[&[u8]]) -> Dictionary {
         Dictionary {
-            dict: self.dict.clone(),
-            page: page.to_vec(),
+            dict: inputs[0].to_vec(),
+            page: inputs[1].to_vec(),
         }
     }
 

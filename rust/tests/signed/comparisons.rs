@@ -10,7 +10,7 @@ pub const LARGE_COUNTS: [usize; 5] = [1000, 2049, 4097, 16_383, 16_384];
 
 /// Constants where a comparison may go wrong: the ends of all number ranges on the way, one of the column's
 /// entries with its neighbours, and numbers that look like that entry once they are cut.
-fn constants(entries: &[i32], random: &mut Random) -> Vec<i64> {
+pub fn constants(entries: &[i32], random: &mut Random) -> Vec<i64> {
     let x = match entries {
         [] => 0,
         some => i64::from(random.pick(some)),

@@ -25,8 +25,16 @@ pub trait Signed: Column + Sized {
     /// What is lent for reading, the page last.
     fn inputs(&self) -> Vec<&[u8]>;
 
+    /// The column of other inputs, as many.
+    fn of_inputs(inputs: &[&[u8]]) -> Self;
+
     /// The same column with another page.
-    fn with_page(&self, page: &[u8]) -> Self;
+    fn with_page(&self, page: &[u8]) -> Self {
+        let mut inputs = self.inputs();
+        inputs.pop();
+        inputs.push(page);
+        Self::of_inputs(&inputs)
+    }
 
     /// The library's scan.
     ///

@@ -3,6 +3,7 @@
 
 use std::ffi::c_void;
 use std::ptr::{copy_nonoverlapping, null_mut};
+use std::slice::from_raw_parts_mut;
 
 extern "C" {
     fn mmap(at: *mut c_void, len: usize, prot: i32, flags: i32, fd: i32, from: i64) -> *mut c_void;
@@ -55,6 +56,12 @@ impl Fenced {
             copy_nonoverlapping(list.as_ptr(), place, list.len());
             place
         }
+    }
+
+    /// The same, lent until something else is laid there.
+    pub fn place<T: Copy>(&mut self, edge: Edge, list: &[T]) -> &mut [T] {
+        // SAFETY: the copy lies in this value's own memory, and is not laid over while it is lent.
+        unsafe { from_raw_parts_mut(self.lay(edge, list), list.len()) }
     }
 }
 

@@ -1,4 +1,6 @@
-//! A place as a caller lends it, with a guard on both sides.
+//! A place as a caller lends it: with a guard on both sides, or with a fence on one of them.
+
+use super::fenced::{Edge, Fenced};
 
 const GUARD: usize = 16;
 
@@ -34,34 +36,65 @@ impl Filled for u64 {
     }
 }
 
-pub struct Lent<T> {
-    all: Vec<T>,
+pub struct Lent<'a, T> {
+    memory: Memory<'a, T>,
     front: usize,
     len: usize,
     guard: T,
 }
 
-impl<T: Filled> Lent<T> {
+/// Memory of the place's own, or some at a fence.
+enum Memory<'a, T> {
+    Own(Vec<T>),
+    Fenced(&'a mut [T]),
+}
+
+impl<'a, T: Filled> Lent<'a, T> {
     /// A place that holds `held`, `shift` elements further from its memory's start than the guard asks.
-    pub fn new(held: &[T], guard: u8, shift: usize) -> Lent<T> {
+    pub fn new(held: &[T], guard: u8, shift: usize) -> Lent<'a, T> {
         let guard = T::filled(guard);
         let front = GUARD + shift;
         let mut all = vec![guard; front + held.len() + GUARD];
         all[front..front + held.len()].copy_from_slice(held);
         Lent {
-            all,
+            memory: Memory::Own(all),
             front,
             len: held.len(),
             guard,
         }
     }
 
+    /// A place that holds `held` at an edge of memory, with a guard on the other side.
+    pub fn at_edge(held: &[T], guard: u8, edge: Edge, fenced: &'a mut Fenced) -> Lent<'a, T> {
+        let guard = T::filled(guard);
+        let (front, all) = match edge {
+            Edge::Start => (0, [held, &[guard; GUARD]].concat()),
+            Edge::End => (GUARD, [&[guard; GUARD], held].concat()),
+        };
+        Lent {
+            memory: Memory::Fenced(fenced.place(edge, &all)),
+            front,
+            len: held.len(),
+            guard,
+        }
+    }
+
+    fn all(&self) -> &[T] {
+        match &self.memory {
+            Memory::Own(all) => all,
+            Memory::Fenced(all) => all,
+        }
+    }
+
     pub fn ptr(&self) -> *const T {
-        self.all[self.front..].as_ptr()
+        self.all()[self.front..].as_ptr()
     }
 
     pub fn mut_ptr(&mut self) -> *mut T {
-        self.all[self.front..].as_mut_ptr()
+        match &mut self.memory {
+            Memory::Own(all) => all[self.front..].as_mut_ptr(),
+            Memory::Fenced(all) => all[self.front..].as_mut_ptr(),
+        }
     }
 
     pub fn len(&self) -> usize {
@@ -69,12 +102,12 @@ impl<T: Filled> Lent<T> {
     }
 
     pub fn held(&self) -> &[T] {
-        &self.all[self.front..self.front + self.len]
+        &self.all()[self.front..self.front + self.len]
     }
 
     pub fn guards_kept(&self) -> bool {
-        let behind = &self.all[self.front + self.len..];
-        let guards = self.all[..self.front].iter().chain(behind);
+        let behind = &self.all()[self.front + self.len..];
+        let guards = self.all()[..self.front].iter().chain(behind);
         guards.into_iter().all(|&element| element == self.guard)
     }
 }

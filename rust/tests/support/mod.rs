@@ -3,6 +3,7 @@
 
 pub mod calls;
 pub mod fenced;
+pub mod ground;
 pub mod lent;
 pub mod random;
 pub mod row;

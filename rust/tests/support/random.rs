@@ -7,16 +7,19 @@ use crate::reader::Unit;
 const SEED_VARIABLE: &str = "CAHERMISK_SEED";
 const SEED: u64 = 0x5EED_CA4E_2026_0001;
 
-/// The seed of this run: `CAHERMISK_SEED`, decimal or with 0x in front, or the fixed one.
+/// The seed of this run: the one asked for, or the fixed one.
 pub fn seed() -> u64 {
-    let Ok(text) = env::var(SEED_VARIABLE) else {
-        return SEED;
-    };
+    asked_seed().unwrap_or(SEED)
+}
+
+/// The seed that `CAHERMISK_SEED` asks for, decimal or with 0x in front.
+pub fn asked_seed() -> Option<u64> {
+    let text = env::var(SEED_VARIABLE).ok()?;
     let parsed = match text.strip_prefix("0x") {
         Some(digits) => u64::from_str_radix(digits, 16),
         None => text.parse(),
     };
-    parsed.unwrap_or_else(|_| panic!("{SEED_VARIABLE}={text} is no 64-bit number"))
+    Some(parsed.unwrap_or_else(|_| panic!("{SEED_VARIABLE}={text} is no 64-bit number")))
 }
 
 /// SplitMix64.
@@ -25,7 +28,12 @@ pub struct Random(u64);
 impl Random {
     /// Each subject has its own row of numbers, whatever order the tests run in.
     pub fn new(subject: &str) -> Random {
-        let mut state = seed();
+        Random::seeded(subject, seed())
+    }
+
+    /// The same from another seed.
+    pub fn seeded(subject: &str, seed: u64) -> Random {
+        let mut state = seed;
         for byte in subject.bytes() {
             state = state.wrapping_mul(0x100_0000_01B3) ^ u64::from(byte);
         }
