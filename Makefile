@@ -11,7 +11,7 @@ help:
 	@echo 'make test    the gate: prove everything from nothing, then test the library just proved'
 	@echo 'make lib     prove the library and write target/staticlib/libcahermisk.a'
 	@echo 'make install the library, its header and cahermisk.pc below PREFIX (/usr/local), or DESTDIR/PREFIX'
-	@echo 'make bench   the library, then its speed beside Rust loops for the same job'
+	@echo 'make bench   the library, then its speed beside Rust loops for the same job, drawn in target/speed.svg'
 	@echo 'make stress  the library, then random and damaged pages for CAHERMISK_STRESS_SECONDS (120), beside the second reader'
 	@echo 'make figures what the last `make test` saw, into docs/FIGURES.md and the end of docs/SHAMS.md'
 	@echo 'make clean   remove what was built (target/)'
@@ -35,6 +35,7 @@ install: lib
 
 bench: need-cargo lib
 	@$(CARGO) bench --offline --locked --quiet --manifest-path rust/Cargo.toml
+	@echo 'Drawn in target/speed.svg. tools/benchmarks-doc measures anew and puts both into docs/'
 
 stress: need-cargo need-cc lib
 	@$(CARGO) test --offline --locked --quiet --manifest-path rust/Cargo.toml --test library -- --ignored stress --nocapture

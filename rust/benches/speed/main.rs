@@ -1,17 +1,21 @@
-//! The library's speed beside Rust loops for the same job, as tables for docs/BENCHMARKS.md.
-//! It prints and asserts nothing about time. A layout is a module here, with its own rows.
+//! The library's speed beside Rust loops for the same job, as tables for docs/BENCHMARKS.md and, in target/speed.svg,
+//! as its picture. It prints and asserts nothing about time. A layout is a module here, with its own rows.
 
 mod clock;
 mod column;
 mod delta;
 mod dictionary;
 mod horizontal;
+mod picture;
 mod race;
 mod runs;
 mod table;
 mod vertical;
 
-fn main() {
+use std::path::Path;
+use std::{fs, io};
+
+fn main() -> io::Result<()> {
     println!(
         "{} ({}), ns an entry: the median of {} batches and, in brackets, the least.",
         std::env::consts::ARCH,
@@ -19,9 +23,15 @@ fn main() {
         clock::BATCHES
     );
     println!("A ratio is of speeds, by the medians: at 2.00 ours takes half the time.");
-    horizontal::report();
-    vertical::report();
-    runs::report();
-    delta::report();
-    dictionary::report();
+    let drawn = [
+        horizontal::report(),
+        vertical::report(),
+        runs::report(),
+        delta::report(),
+        dictionary::report(),
+    ];
+    let target = Path::new(env!("CARGO_MANIFEST_DIR")).join("../target");
+    fs::create_dir_all(&target)?;
+    let drawn: Vec<_> = drawn.into_iter().flatten().collect();
+    fs::write(target.join("speed.svg"), picture::of(&drawn))
 }

@@ -3,16 +3,20 @@
 use std::fmt::Debug;
 use std::hint::black_box;
 
-use crate::clock::time;
+use crate::clock::{time, Taken};
 use crate::column::ENTRIES;
-use crate::table::row;
 
 /// One way: it writes to the place lent, and gives a number.
 pub type Way<'a, T> = &'a dyn Fn(&mut [T]) -> usize;
 
-/// Prints the row of a width, the first way's time being ours. Each way has a place of its own like `room`.
-/// Gives what they all wrote.
-pub fn race<T>(width: u32, room: &[T], ways: &[Way<T>]) -> Vec<T>
+/// The time of each way, and what they all wrote.
+pub struct Raced<T> {
+    pub taken: Vec<Taken>,
+    pub written: Vec<T>,
+}
+
+/// Each way has a place of its own like `room`.
+pub fn race<T>(width: u32, room: &[T], ways: &[Way<T>]) -> Raced<T>
 where
     T: Clone + Debug + PartialEq,
 {
@@ -25,6 +29,6 @@ where
 
     let timed = ways.iter().zip(&mut places);
     let timed = timed.map(|(way, place)| move || _ = black_box(way(black_box(place))));
-    row(width, &time(ENTRIES, &mut timed.collect::<Vec<_>>()));
-    written
+    let taken = time(ENTRIES, &mut timed.collect::<Vec<_>>());
+    Raced { taken, written }
 }

@@ -1,9 +1,38 @@
-//! Rows of a Markdown table.
+//! Markdown tables, printed row by row as they are measured.
 
 use crate::clock::Taken;
 
-/// The heading of a table: the ways after ours, whose ratios close each row.
-pub fn heading(title: &str, others: &[&str]) {
+/// The times of several ways to do one job, by width. The first way is ours.
+pub struct Table {
+    pub title: String,
+    pub ways: Vec<&'static str>,
+    pub rows: Vec<(u32, Vec<Taken>)>,
+}
+
+impl Table {
+    /// Measures each width and prints its row. The ways after ours have their ratios at the end of each row.
+    pub fn of(
+        title: &str,
+        others: &[&'static str],
+        widths: impl IntoIterator<Item = u32>,
+        measured: impl Fn(u32) -> Vec<Taken>,
+    ) -> Table {
+        print_heading(title, others);
+        let mut rows = Vec::new();
+        for width in widths {
+            let taken = measured(width);
+            print_row(width, &taken);
+            rows.push((width, taken));
+        }
+        Table {
+            title: title.to_string(),
+            ways: [&["ours"], others].concat(),
+            rows,
+        }
+    }
+}
+
+fn print_heading(title: &str, others: &[&str]) {
     let mut names = vec!["width".to_string(), "ours".to_string()];
     names.extend(others.iter().map(|other| other.to_string()));
     names.extend(others.iter().map(|other| format!("ours/{other}")));
@@ -11,8 +40,7 @@ pub fn heading(title: &str, others: &[&str]) {
     println!("|{}", "--:|".repeat(names.len()));
 }
 
-/// One row; the first time is ours.
-pub fn row(width: u32, taken: &[Taken]) {
+fn print_row(width: u32, taken: &[Taken]) {
     let times = taken
         .iter()
         .map(|t| format!("{:.2} ({:.2})", t.median, t.least));

@@ -6,26 +6,25 @@ use std::hint::black_box;
 
 use cahermisk::{delta, Comparison};
 
+use crate::clock::Taken;
 use crate::column::{self, ENTRIES};
 use crate::race::race;
-use crate::table::heading;
+use crate::table::Table;
 
 const WIDTHS: [u32; 10] = [1, 2, 4, 7, 8, 12, 16, 20, 24, 32];
 
-pub fn report() {
+/// Prints all tables, and gives those to be drawn.
+pub fn report() -> Vec<Table> {
     println!(
         "\nobvious: safe Rust, deltas unpacked 32 at once with constant shifts and added up into a list of entries; then compared."
     );
     println!("A width is that of the steps above the smallest, as they are packed.");
-    heading(
-        "Delta scan, 16,384 entries, a band of half of them",
-        &["obvious"],
-    );
-    WIDTHS.into_iter().for_each(scan);
-    heading("Delta unpack, 16,384 entries", &["obvious"]);
-    WIDTHS.into_iter().for_each(unpack);
-    heading("Delta pack, 16,384 entries", &["obvious"]);
-    WIDTHS.into_iter().for_each(pack);
+    let others = &["obvious"];
+    let title = "Delta scan, 16,384 entries, a band of half of them";
+    let scans = Table::of(title, others, WIDTHS, scan);
+    Table::of("Delta unpack, 16,384 entries", others, WIDTHS, unpack);
+    Table::of("Delta pack, 16,384 entries", others, WIDTHS, pack);
+    vec![scans]
 }
 
 /// Entries with steps of a width, up and down.
@@ -51,7 +50,7 @@ fn band(width: u32) -> (i32, i32) {
     (sorted[ENTRIES / 4], sorted[ENTRIES / 4 * 3])
 }
 
-fn scan(width: u32) {
+fn scan(width: u32) -> Vec<Taken> {
     let page = page(width);
     let (low, high) = band(width);
     let between = Comparison::between(low.into(), high.into());
@@ -61,23 +60,24 @@ fn scan(width: u32) {
     let obvious = |bitmap: &mut [u8]| {
         obvious::scan(black_box(&page), ENTRIES, low, high, bitmap).expect("a good page")
     };
-    race(width, &[0xA5; ENTRIES / 8], &[&ours, &obvious]);
+    race(width, &[0xA5; ENTRIES / 8], &[&ours, &obvious]).taken
 }
 
-fn unpack(width: u32) {
+fn unpack(width: u32) -> Vec<Taken> {
     let page = page(width);
     let ours =
         |list: &mut [i32]| delta::unpack(black_box(&page), ENTRIES, list).expect("a good page");
     let obvious = |list: &mut [i32]| obvious::unpack(black_box(&page), list).expect("a good page");
-    let unpacked = race(width, &[0xA5; ENTRIES], &[&ours, &obvious]);
-    assert_eq!(unpacked, entries(width), "width {width}");
+    let raced = race(width, &[0xA5; ENTRIES], &[&ours, &obvious]);
+    assert_eq!(raced.written, entries(width), "width {width}");
+    raced.taken
 }
 
-fn pack(width: u32) {
+fn pack(width: u32) -> Vec<Taken> {
     let entries = entries(width);
     let ours =
         |page: &mut [u8]| delta::pack(black_box(&entries), page).expect("there is room enough");
     let obvious = |page: &mut [u8]| obvious::pack(black_box(&entries), page);
     let room = vec![0xA5; page(width).len()];
-    race(width, &room, &[&ours, &obvious]);
+    race(width, &room, &[&ours, &obvious]).taken
 }

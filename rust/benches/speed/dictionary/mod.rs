@@ -6,10 +6,11 @@ use std::hint::black_box;
 
 use cahermisk::{dictionary, Comparison};
 
+use crate::clock::Taken;
 use crate::column::{band, entries, ENTRIES};
 use crate::race::race;
 use crate::runs::stream::Shape;
-use crate::table::heading;
+use crate::table::Table;
 
 /// The widths that a dictionary's indexes need.
 const WIDTHS: [u32; 14] = [1, 2, 3, 4, 5, 6, 7, 8, 9, 10, 11, 12, 13, 14];
@@ -33,28 +34,25 @@ impl Values {
 
 const MIXTURE: &str = "repeated runs of 8 to 40 and packed runs of 1 to 8 groups";
 
-pub fn report() {
+/// Prints all tables, and gives those to be drawn.
+pub fn report() -> Vec<Table> {
     println!(
         "\nobvious: safe Rust, indexes read into a list, packed ones by eight with constant shifts; then each looked up and compared."
     );
     println!("A width is that of the indexes; the dictionary has three quarters of the values that they count.");
-    scans(MIXTURE, Shape::Mixed, Values::Most);
+    let mixed = scans(MIXTURE, Shape::Mixed, Values::Most);
     let all = format!("{MIXTURE}, as many values as the width counts");
     scans(&all, Shape::Mixed, Values::All);
     scans("long repeated runs", Shape::Long, Values::Most);
-    heading(
-        "Dictionary unpack, 16,384 entries, the same mixture",
-        &["obvious"],
-    );
-    WIDTHS.into_iter().for_each(unpack);
+    let title = "Dictionary unpack, 16,384 entries, the same mixture";
+    Table::of(title, &["obvious"], WIDTHS, unpack);
+    vec![mixed]
 }
 
-fn scans(title: &str, shape: Shape, values: Values) {
+fn scans(title: &str, shape: Shape, values: Values) -> Table {
     let title = format!("Dictionary scan, 16,384 entries, {title}");
-    heading(&title, &["obvious"]);
-    for width in WIDTHS {
-        scan(width, shape, values);
-    }
+    let measured = |width| scan(width, shape, values);
+    Table::of(&title, &["obvious"], WIDTHS, measured)
 }
 
 /// The value of an index: values go up by 5, from below 0.
@@ -73,7 +71,7 @@ fn column(width: u32, shape: Shape, values: Values) -> (Vec<u8>, Vec<u8>) {
     (dictionary.collect(), page)
 }
 
-fn scan(width: u32, shape: Shape, values: Values) {
+fn scan(width: u32, shape: Shape, values: Values) -> Vec<Taken> {
     let (values, page) = column(width, shape, values);
     let (low, high) = band(width);
     let (low, high) = (value(low), value(high));
@@ -86,15 +84,15 @@ fn scan(width: u32, shape: Shape, values: Values) {
         let count = obvious::scan(black_box(&values), &page, ENTRIES, low, high, bitmap);
         count.expect("a good column")
     };
-    race(width, &[0xA5; ENTRIES / 8], &[&ours, &obvious]);
+    race(width, &[0xA5; ENTRIES / 8], &[&ours, &obvious]).taken
 }
 
-fn unpack(width: u32) {
+fn unpack(width: u32) -> Vec<Taken> {
     let (values, page) = column(width, Shape::Mixed, Values::Most);
     let ours = |list: &mut [i32]| {
         dictionary::unpack(black_box(&values), &page, ENTRIES, list).expect("a good column")
     };
     let obvious =
         |list: &mut [i32]| obvious::unpack(black_box(&values), &page, list).expect("a good column");
-    race(width, &[0xA5; ENTRIES], &[&ours, &obvious]);
+    race(width, &[0xA5; ENTRIES], &[&ours, &obvious]).taken
 }

@@ -7,31 +7,39 @@ use std::hint::black_box;
 
 use cahermisk::{horizontal, Comparison};
 
+use crate::clock::Taken;
 use crate::column::{band, entries, ENTRIES, SOME_WIDTHS};
 use crate::race::race;
-use crate::table::heading;
+use crate::table::Table;
 
-pub fn report() {
+/// Prints all tables, and gives those to be drawn.
+pub fn report() -> Vec<Table> {
     println!(
         "\nobvious: safe Rust, one entry after another, each through a window of eight bytes."
     );
     println!("best: 64 entries unpacked with constant shifts, then compared into one word of the bitmap.");
-    heading(
+    let scans = Table::of(
         "Horizontal scan, 16,384 entries, a band of half the numbers",
         &["obvious", "best"],
+        1..=32,
+        scan,
     );
-    (1..=32).for_each(scan);
-    heading("Horizontal unpack, 16,384 entries", &["obvious"]);
-    SOME_WIDTHS.into_iter().for_each(unpack);
-    heading("Horizontal pack, 16,384 entries", &["obvious"]);
-    SOME_WIDTHS.into_iter().for_each(pack);
+    let others = &["obvious"];
+    Table::of(
+        "Horizontal unpack, 16,384 entries",
+        others,
+        SOME_WIDTHS,
+        unpack,
+    );
+    Table::of("Horizontal pack, 16,384 entries", others, SOME_WIDTHS, pack);
+    vec![scans]
 }
 
 fn page(width: u32) -> Vec<u8> {
     horizontal::pack_to_vec(&entries(width), width).expect("the entries fit the width")
 }
 
-fn scan(width: u32) {
+fn scan(width: u32) -> Vec<Taken> {
     let page = page(width);
     let (low, high) = band(width);
     let between = Comparison::between(low.into(), high.into());
@@ -40,20 +48,21 @@ fn scan(width: u32) {
     };
     let obvious = |bitmap: &mut [u8]| obvious::scan(black_box(&page), width, low, high, bitmap);
     let best = |bitmap: &mut [u8]| best::scan(black_box(&page), width, low, high, bitmap);
-    race(width, &[0xA5; ENTRIES / 8], &[&ours, &obvious, &best]);
+    race(width, &[0xA5; ENTRIES / 8], &[&ours, &obvious, &best]).taken
 }
 
-fn unpack(width: u32) {
+fn unpack(width: u32) -> Vec<Taken> {
     let page = page(width);
     let ours = |list: &mut [u32]| {
         horizontal::unpack(black_box(&page), width, ENTRIES, list).expect("a good page")
     };
     let obvious = |list: &mut [u32]| obvious::unpack(black_box(&page), width, list);
-    let unpacked = race(width, &[0xA5; ENTRIES], &[&ours, &obvious]);
-    assert_eq!(unpacked, entries(width), "width {width}");
+    let raced = race(width, &[0xA5; ENTRIES], &[&ours, &obvious]);
+    assert_eq!(raced.written, entries(width), "width {width}");
+    raced.taken
 }
 
-fn pack(width: u32) {
+fn pack(width: u32) -> Vec<Taken> {
     let entries = entries(width);
     let ours = |page: &mut [u8]| {
         horizontal::pack(black_box(&entries), width, page).expect("the entries fit the width")
@@ -62,5 +71,5 @@ fn pack(width: u32) {
         obvious::pack(black_box(&entries), width, page).expect("the entries fit the width")
     };
     let room = vec![0xA5; page(width).len()];
-    race(width, &room, &[&ours, &obvious]);
+    race(width, &room, &[&ours, &obvious]).taken
 }

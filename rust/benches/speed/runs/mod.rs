@@ -8,19 +8,21 @@ use std::hint::black_box;
 
 use cahermisk::{runs, Comparison};
 
+use crate::clock::Taken;
 use crate::column::{band, ENTRIES};
 use crate::race::race;
-use crate::table::heading;
+use crate::table::Table;
 use stream::Shape;
 
 const WIDTHS: [u32; 7] = [1, 3, 7, 8, 12, 20, 32];
 
-pub fn report() {
+/// Prints all tables, and gives those to be drawn: the first shape and the mixture.
+pub fn report() -> Vec<Table> {
     println!(
         "\nobvious: safe Rust, runs read into a list of entries, packed ones by eight with constant shifts; then compared."
     );
     println!("best: no list; each run's bits are put into the bitmap, packed ones 64 at once.");
-    for (title, shape) in [
+    let scans = [
         ("long repeated runs", Shape::Long),
         (
             "packed runs that begin at a byte of the bitmap",
@@ -31,24 +33,20 @@ pub fn report() {
             "repeated runs of 8 to 40 and packed runs of 1 to 8 groups",
             Shape::Mixed,
         ),
-    ] {
+    ];
+    let [long, _, _, mixed] = scans.map(|(title, shape)| {
         let title = format!("Run stream scan, 16,384 entries, {title}");
-        heading(&title, &["obvious", "best"]);
-        WIDTHS.into_iter().for_each(|width| scan(width, shape));
+        let others = &["obvious", "best"];
+        Table::of(&title, others, WIDTHS, |width| scan(width, shape))
+    });
+    for (title, measured) in [("unpack", unpack as fn(u32) -> Vec<Taken>), ("pack", pack)] {
+        let title = format!("Run stream {title}, 16,384 entries, the same mixture");
+        Table::of(&title, &["obvious"], WIDTHS, measured);
     }
-    heading(
-        "Run stream unpack, 16,384 entries, the same mixture",
-        &["obvious"],
-    );
-    WIDTHS.into_iter().for_each(unpack);
-    heading(
-        "Run stream pack, 16,384 entries, the same mixture",
-        &["obvious"],
-    );
-    WIDTHS.into_iter().for_each(pack);
+    vec![long, mixed]
 }
 
-fn scan(width: u32, shape: Shape) {
+fn scan(width: u32, shape: Shape) -> Vec<Taken> {
     let page = shape.stream(width);
     let (low, high) = band(width);
     let between = Comparison::between(low.into(), high.into());
@@ -63,20 +61,20 @@ fn scan(width: u32, shape: Shape) {
         let count = best::scan(black_box(&page), width, ENTRIES, low, high, bitmap);
         count.expect("a good stream")
     };
-    race(width, &[0xA5; ENTRIES / 8], &[&ours, &obvious, &best]);
+    race(width, &[0xA5; ENTRIES / 8], &[&ours, &obvious, &best]).taken
 }
 
-fn unpack(width: u32) {
+fn unpack(width: u32) -> Vec<Taken> {
     let page = Shape::Mixed.stream(width);
     let ours = |list: &mut [u32]| {
         runs::unpack(black_box(&page), width, ENTRIES, list).expect("a good stream")
     };
     let obvious =
         |list: &mut [u32]| obvious::unpack(black_box(&page), width, list).expect("a good stream");
-    race(width, &[0xA5; ENTRIES], &[&ours, &obvious]);
+    race(width, &[0xA5; ENTRIES], &[&ours, &obvious]).taken
 }
 
-fn pack(width: u32) {
+fn pack(width: u32) -> Vec<Taken> {
     let page = Shape::Mixed.stream(width);
     let entries = runs::unpack_to_vec(&page, width, ENTRIES).expect("a good stream");
     let ours = |page: &mut [u8]| {
@@ -86,5 +84,5 @@ fn pack(width: u32) {
         obvious::pack(black_box(&entries), width, page).expect("the entries fit the width")
     };
     let room = runs::pack_to_vec(&entries, width).expect("the entries fit the width");
-    race(width, &vec![0xA5; room.len()], &[&ours, &obvious]);
+    race(width, &vec![0xA5; room.len()], &[&ours, &obvious]).taken
 }

@@ -7,29 +7,37 @@ use std::hint::black_box;
 
 use cahermisk::{vertical, Comparison};
 
+use crate::clock::Taken;
 use crate::column::{band, entries, ENTRIES, SOME_WIDTHS};
 use crate::race::{race, Way};
-use crate::table::heading;
+use crate::table::Table;
 
-pub fn report() {
+/// Prints all tables, and gives those to be drawn.
+pub fn report() -> Vec<Table> {
     println!("\nobvious: safe Rust, one entry after another, each bit from its own plane.");
     println!("all planes, early exit: the paper's listing in Rust, 64 entries at once, without and with its early exit.");
-    heading(
+    let scans = Table::of(
         "Vertical scan, 16,384 entries, a band of half the numbers",
         &["obvious", "all planes", "early exit"],
+        1..=32,
+        scan,
     );
-    (1..=32).for_each(scan);
-    heading("Vertical unpack, 16,384 entries", &["obvious"]);
-    SOME_WIDTHS.into_iter().for_each(unpack);
-    heading("Vertical pack, 16,384 entries", &["obvious"]);
-    SOME_WIDTHS.into_iter().for_each(pack);
+    let others = &["obvious"];
+    Table::of(
+        "Vertical unpack, 16,384 entries",
+        others,
+        SOME_WIDTHS,
+        unpack,
+    );
+    Table::of("Vertical pack, 16,384 entries", others, SOME_WIDTHS, pack);
+    vec![scans]
 }
 
 fn words(width: u32) -> Vec<u64> {
     vertical::pack_to_vec(&entries(width), width).expect("the entries fit the width")
 }
 
-fn scan(width: u32) {
+fn scan(width: u32) -> Vec<Taken> {
     let words = words(width);
     let (low, high) = band(width);
     let between = Comparison::between(low.into(), high.into());
@@ -42,20 +50,21 @@ fn scan(width: u32) {
     let early_exit =
         |bitmap: &mut [u8]| paper::scan::<true>(black_box(&words), width, low, high, bitmap);
     let ways: [Way<u8>; 4] = [&ours, &obvious, &all_planes, &early_exit];
-    race(width, &[0xA5; ENTRIES / 8], &ways);
+    race(width, &[0xA5; ENTRIES / 8], &ways).taken
 }
 
-fn unpack(width: u32) {
+fn unpack(width: u32) -> Vec<Taken> {
     let words = words(width);
     let ours = |list: &mut [u32]| {
         vertical::unpack(black_box(&words), width, ENTRIES, list).expect("good planes")
     };
     let obvious = |list: &mut [u32]| obvious::unpack(black_box(&words), width, list);
-    let unpacked = race(width, &[0xA5; ENTRIES], &[&ours, &obvious]);
-    assert_eq!(unpacked, entries(width), "width {width}");
+    let raced = race(width, &[0xA5; ENTRIES], &[&ours, &obvious]);
+    assert_eq!(raced.written, entries(width), "width {width}");
+    raced.taken
 }
 
-fn pack(width: u32) {
+fn pack(width: u32) -> Vec<Taken> {
     let entries = entries(width);
     let ours = |words: &mut [u64]| {
         vertical::pack(black_box(&entries), width, words).expect("the entries fit the width")
@@ -64,5 +73,5 @@ fn pack(width: u32) {
         obvious::pack(black_box(&entries), width, words).expect("the entries fit the width")
     };
     let room = vec![0xA5; words(width).len()];
-    race(width, &room, &[&ours, &obvious]);
+    race(width, &room, &[&ours, &obvious]).taken
 }
