@@ -1,14 +1,17 @@
-//! The sample day of data/day: its generator makes it again, and scans of it tell what the recorder saw.
+//! The sample day of data/day: its generator makes it again, and the example that scans it tells what the recorder saw.
 
 use std::fs;
 use std::path::{Path, PathBuf};
 
-use cahermisk::{delta, runs, vertical, Comparison, MAX_ENTRIES};
+use cahermisk::Comparison;
 
 #[path = "../examples/make_day/columns.rs"]
 mod columns;
 #[path = "../examples/make_day/pages.rs"]
 mod pages;
+#[path = "../examples/scan_day.rs"]
+#[allow(dead_code, reason = "main is for the example alone")]
+mod scan_day;
 
 fn day() -> PathBuf {
     Path::new(env!("CARGO_MANIFEST_DIR")).join("../data/day")
@@ -35,23 +38,6 @@ fn the_generator_makes_the_same_files() {
     );
 }
 
-/// The numbers of the selected seconds of a column of six pages.
-fn selected(
-    kind: (&str, &str),
-    scan: impl Fn(&[u8], usize) -> Result<cahermisk::Bitmap, cahermisk::Refusal>,
-) -> Vec<usize> {
-    let left = |page: usize| columns::SECONDS as usize - page * MAX_ENTRIES;
-    (0..6)
-        .flat_map(|page| {
-            let name = format!("{}-{}.{}", kind.0, page + 1, kind.1);
-            let bitmap = scan(&file(&name), left(page).min(MAX_ENTRIES));
-            let bitmap = bitmap.unwrap_or_else(|refusal| panic!("{name}: {refusal}"));
-            let numbers: Vec<usize> = bitmap.selected().collect();
-            numbers.into_iter().map(move |i| page * MAX_ENTRIES + i)
-        })
-        .collect()
-}
-
 /// The numbers of the entries that hold.
 fn where_holds<T: Copy>(entries: &[T], holds: impl Fn(T) -> bool) -> Vec<usize> {
     (0..entries.len()).filter(|&i| holds(entries[i])).collect()
@@ -59,10 +45,7 @@ fn where_holds<T: Copy>(entries: &[T], holds: impl Fn(T) -> bool) -> Vec<usize> 
 
 #[test]
 fn the_level_is_420_at_noon_and_110_at_five() {
-    let band = Comparison::between(110, 420);
-    let seconds = selected(("level", "delta"), |page, n| {
-        delta::scan_to_bitmap(page, n, band)
-    });
+    let seconds = scan_day::level(&day(), Comparison::between(110, 420)).expect("a good day");
     let level = columns::level();
     assert_eq!((level[5 * 3600], level[12 * 3600]), (110, 420));
     assert_eq!(
@@ -73,20 +56,43 @@ fn the_level_is_420_at_noon_and_110_at_five() {
 }
 
 #[test]
+fn the_landing_lies_at_each_deck_as_recorded() {
+    let landing = columns::landing();
+    for deck in 1..=6 {
+        let seconds = scan_day::landing(&day(), Comparison::equal(deck.into()));
+        let at_deck = where_holds(&landing, |index| columns::DECKS[index as usize] == deck);
+        assert_eq!(at_deck.is_empty(), !columns::DECKS.contains(&deck));
+        assert_eq!(seconds.expect("a good day"), at_deck, "deck {deck}");
+    }
+}
+
+#[test]
 fn calls_and_busy_lifts_are_as_recorded() {
-    let some = Comparison::greater_or_equal(1);
-    let called = selected(("calls", "runs"), |page, n| {
-        runs::scan_to_bitmap(page, 3, n, some)
-    });
+    let called = scan_day::calls(&day(), Comparison::greater_or_equal(1)).expect("a good day");
     assert_eq!(called, where_holds(&columns::calls(), |calls| calls >= 1));
-    let all = Comparison::equal(15);
-    let full = selected(("busy", "planes"), |page, n| {
-        let words: Vec<u64> = page
-            .chunks_exact(8)
-            .map(|word| u64::from_le_bytes(word.try_into().unwrap()))
-            .collect();
-        vertical::scan_to_bitmap(&words, 4, n, all)
-    });
+    let full = scan_day::busy(&day(), Comparison::equal(15)).expect("a good day");
     assert_eq!(full, where_holds(&columns::busy(), |busy| busy == 15));
     assert!(!called.is_empty() && !full.is_empty());
+}
+
+#[test]
+fn the_example_tells_how_many_seconds_and_when() {
+    let lines = [
+        "level from 110 to 420 cm: 74559 seconds, the first at 00:00:00, the last at 23:59:59",
+        "landing at deck 4: 16812 seconds, the first at 02:40:15, the last at 21:19:45",
+        "a lift called: 7032 seconds, the first at 06:00:44, the last at 22:58:20",
+        "all 15 lifts busy: 12814 seconds, the first at 06:01:31, the last at 22:49:26",
+    ];
+    assert_eq!(scan_day::report(&day()).expect("a good day"), lines);
+}
+
+#[test]
+fn the_example_tells_which_page_is_refused() {
+    let folder = Path::new(env!("CARGO_TARGET_TMPDIR")).join("day-cut");
+    fs::create_dir_all(&folder).expect("a folder for one page");
+    let page = file("level-1.delta");
+    fs::write(folder.join("level-1.delta"), &page[..page.len() - 1]).expect("a page cut short");
+    let error = scan_day::report(&folder).expect_err("a page cut short");
+    let told = "level-1.delta is refused: input ends too early";
+    assert!(error.to_string().ends_with(told), "{error}");
 }
