@@ -75,8 +75,8 @@ fn unpack<L: Layout>(sample: &Sample<L::Unit>, calls: &mut Calls, tally: &mut Ta
 
 fn pack<L: Layout>(calls: &mut Calls, tally: &mut Tally) {
     let random = &mut calls.random;
-    let (width, n) = (any_width(random), any_count(random));
-    let kind = random.pick(&KINDS);
+    let (width, count) = (any_width(random), any_count(random));
+    let (n, kind) = (about(count, random), random.pick(&KINDS));
     let mut list = entries(kind, width, n, random);
     if n > 0 && random.once_in(8) {
         list[random.below(n)] = random.bits() as u32;
