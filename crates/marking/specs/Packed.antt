@@ -16,7 +16,7 @@ use Rattle.words.specs.Entries.{field-window, place-within}
 use Rattle.words.specs.Puts.{part-put}
 use Rattle.words.specs.Appended.{appended}
 use Rattle.bitmaps.specs.Bitmaps.{number-bitmap}
-use Rattle.selection.specs.Selected.{selected}
+use Rattle.kernels.specs.Selected.{selected}
 use Rattle.marking.specs.Whole.{appended-whole}
 
 -- ---- the bits of a part

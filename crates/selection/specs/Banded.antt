@@ -12,7 +12,7 @@ use Rattle.compare.specs.Band.{banded}
 use Rattle.compare.specs.Range.{ranged, rangeOf}
 use Rattle.compare.specs.Ranges.{ranged-band}
 use Rattle.compare.specs.declared.bands.Band.{Band}
-use Rattle.selection.specs.Selected.{selected}
+use Rattle.kernels.specs.Selected.{selected}
 
 pub selected-banded : (page : List ℕ) (n w : ℕ) (band : Band) → w ≤ 32
     → selected page n w (ranged (rangeOf band)) ≡ bitmap n (λ i. banded band (pos (entry lowFirst page w i)))

@@ -1,4 +1,2 @@
-pub mod Selected
-pub mod Groups
 pub mod Pages
 pub mod Banded

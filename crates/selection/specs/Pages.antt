@@ -16,8 +16,8 @@ use Rattle.words.specs.Puts.{part-put}
 use Rattle.words.specs.Entries.{field-ext, field-drop}
 use Rattle.bitmaps.specs.Bitmaps.{bitmap-ext, put-bitmap}
 use Rattle.bitmaps.specs.Trimmed.{trimmed, trimmed-bitmap}
-use Rattle.selection.specs.Selected.{selected}
-use Rattle.selection.specs.Groups.{none-selected}
+use Rattle.kernels.specs.Selected.{selected}
+use Rattle.kernels.specs.Groups.{none-selected}
 
 -- ---- zeros behind a page
 

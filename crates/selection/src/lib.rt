@@ -1,3 +1,2 @@
 // Packed entries compared where they lie: eight entries are one byte of the bitmap.
-pub mod groups;
 pub mod pages;

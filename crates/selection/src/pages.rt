@@ -5,10 +5,10 @@ ghost use lib.ListN.{length, drop};
 ghost use Rattle.rules.specs.Bits.{ceil, put};
 ghost use Rattle.rules.specs.Horizontal.{pageBytes};
 ghost use Rattle.compare.specs.Range.{ranged};
-ghost use Rattle.selection.specs.Selected.{selected, ranging};
-use crate::groups::select_groups;
+ghost use Rattle.kernels.specs.Selected.{selected, ranging};
 use bitmaps::trim;
 use compare::ranges::Range;
+use widths::select_groups;
 use words::counts::below;
 
 // The groups, of q, whose windows end within the page: how many they are.

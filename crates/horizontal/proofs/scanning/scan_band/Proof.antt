@@ -10,7 +10,7 @@ use Rattle.answers.specs.Laws.{then-zero, has-room, refused-is}
 use Rattle.bitmaps.specs.Scans.{scanned-is}
 use Rattle.compare.specs.Range.{ranged}
 use Rattle.compare.specs.Ranges.{range-fits, range-flip}
-use Rattle.selection.specs.Selected.{selected}
+use Rattle.kernels.specs.Selected.{selected}
 use Rattle.selection.specs.Banded.{selected-banded}
 use Rattle.horizontal.specs.Pages.{good-page}
 use Rattle.horizontal.proofs.scanning.scan_band.Statement.{statement}

@@ -4,7 +4,7 @@ use Prim.Native.Nat.{_+_, _*_}
 use native.Mathlib.Omega.{arith}
 use lib.ListN.{length}
 use borrow.Author.Needs.{needs}
-use Rattle.selection.specs.Selected.{ranging}
+use Rattle.kernels.specs.Selected.{ranging}
 use Rattle.selection.specs.Pages.{none-front, front-size}
 use Rattle.selection.proofs.pages.front.Statement.{statement}
 use Rattle.selection.proofs.pages.front.Tie as tie

@@ -5,8 +5,8 @@ use Prim.Native.Nat.{ℕ, _*_}
 use lib.ListN.{drop}
 use borrow.Author.Needs.{needs}
 use Rattle.rules.specs.Bits.{put}
-use Rattle.selection.specs.Selected.{selected, ranging}
-use Rattle.selection.specs.Groups.{none-selected}
+use Rattle.kernels.specs.Selected.{selected, ranging}
+use Rattle.kernels.specs.Groups.{none-selected}
 use Rattle.selection.specs.Pages.{selected-padded}
 use Rattle.selection.proofs.pages.tail.Statement.{statement}
 use Rattle.selection.proofs.pages.tail.Tie as tie

@@ -1,24 +1,33 @@
-// Groups of eight entries, w bytes each, whose windows end within the page.
+// Entry by entry, at any width: each through a window of eight bytes that ends within the page.
 ghost use mathlib.Core.Path.{_≡_};
 ghost use Prim.Native.Nat.{_+_, _*_, _/_, _%_, _≤_, _<_};
 ghost use lib.ListN.{length};
 ghost use Rattle.rules.specs.Bits.{flag, word, put, field};
 ghost use Rattle.rules.specs.Bits.Order.{lowFirst};
 ghost use Rattle.compare.specs.Range.{inside};
-ghost use Rattle.selection.specs.Selected.{selected, ranging};
+ghost use Rattle.kernels.specs.Selected.{selected, ranging};
 use std::num::wrapping_sub_u32;
 use words::entries::entry_in;
 
-// Whether the entry from bit b after byte `at` on lies from low to low + span: 1 or 0.
+// Whether an entry lies from low to low + span: 1 or 0.
+pub fn mark(x: u32, low: u32, span: u32) -> u8
+    requires { ⌜ low + span < 4294967296 ⌝ }
+    ensures told { λ r. ⌜ r ≡ flag (inside low (low + span) x) ⌝ }
+    ensures small { λ r. ⌜ r < 2 ⌝ }
+{
+    (wrapping_sub_u32(x, low) <= span) as u8
+}
+
+// The same of the entry from bit b after byte `at` on.
 fn hit(page: &[u8], at: usize, b: usize, w: usize, low: u32, span: u32) -> u8
     requires { ⌜ (w ≤ 32) × (at + b / 8 + 8 ≤ length (now page)) × (low + span < 4294967296) ⌝ }
     ensures told { λ r. ⌜ r ≡ flag (inside low (low + span) (field lowFirst (now (page .entry)) (8 * at + b) w)) ⌝ }
     ensures small { λ r. ⌜ r < 2 ⌝ }
 {
-    (wrapping_sub_u32(entry_in(page, at, b, w), low) <= span) as u8
+    mark(entry_in(page, at, b, w), low, span)
 }
 
-// The same of the eight entries from byte `at` on, a bit for each.
+// And of the eight entries from byte `at` on, a bit for each.
 fn eight(page: &[u8], at: usize, w: usize, low: u32, span: u32) -> u8
     requires { ⌜ (w ≤ 32) × (at + w + 8 ≤ length (now page)) × (low + span < 4294967296) ⌝ }
     ensures { λ r. ⌜ r ≡ word 8 (λ j. inside low (low + span) (field lowFirst (now (page .entry)) (8 * at + j * w) w)) ⌝ }
@@ -34,7 +43,7 @@ fn eight(page: &[u8], at: usize, w: usize, low: u32, span: u32) -> u8
 }
 
 // m groups to m bytes of the bitmap. `flip` is 255 where the entries outside are wanted.
-pub fn select_groups(
+pub fn select_each(
     page: &[u8],
     bitmap: &mut [u8],
     m: usize,

@@ -1,13 +1,13 @@
--- `selection::groups::eight` meets its contract: eight digits, each with its weight.
+-- `kernels::wholes::eight` meets its contract: eight digits, each with its weight.
 use Prim.Native.Nat.{_+_, _*_}
 use native.Mathlib.Omega.{arith}
 use borrow.Author.Needs.{needs}
 use Rattle.rules.specs.Bits.{field}
 use Rattle.rules.specs.Bits.Order.{lowFirst}
 use Rattle.compare.specs.Range.{inside}
-use Rattle.selection.specs.Groups.{group-flags}
-use Rattle.selection.proofs.groups.eight.Statement.{statement}
-use Rattle.selection.proofs.groups.eight.Tie as tie
+use Rattle.kernels.specs.Groups.{eight-flags}
+use Rattle.kernels.proofs.wholes.eight.Statement.{statement}
+use Rattle.kernels.proofs.wholes.eight.Tie as tie
 
 hit-requires : tie.Need-hit-requires
 hit-requires c κs = search needs
@@ -21,9 +21,6 @@ mul-result c = search needs
 add-result : tie.Need-add-result
 add-result c = search needs
 
-mul-hit : tie.Need-mul-hit
-mul-hit c = search needs
-
 hit-requires-3 : tie.Need-hit-requires-3
 hit-requires-3 c κs = search needs
 
@@ -32,9 +29,6 @@ mul-result-2 c = search needs
 
 add-result-2 : tie.Need-add-result-2
 add-result-2 c = search needs
-
-mul-hit-2 : tie.Need-mul-hit-2
-mul-hit-2 c = search needs
 
 hit-requires-4 : tie.Need-hit-requires-4
 hit-requires-4 c κs = search needs
@@ -45,9 +39,6 @@ mul-result-3 c = search needs
 add-result-3 : tie.Need-add-result-3
 add-result-3 c = search needs
 
-mul-hit-3 : tie.Need-mul-hit-3
-mul-hit-3 c = search needs
-
 hit-requires-5 : tie.Need-hit-requires-5
 hit-requires-5 c κs = search needs
 
@@ -56,9 +47,6 @@ mul-result-4 c = search needs
 
 add-result-4 : tie.Need-add-result-4
 add-result-4 c = search needs
-
-mul-hit-4 : tie.Need-mul-hit-4
-mul-hit-4 c = search needs
 
 hit-requires-6 : tie.Need-hit-requires-6
 hit-requires-6 c κs = search needs
@@ -69,9 +57,6 @@ mul-result-5 c = search needs
 add-result-5 : tie.Need-add-result-5
 add-result-5 c = search needs
 
-mul-hit-5 : tie.Need-mul-hit-5
-mul-hit-5 c = search needs
-
 hit-requires-7 : tie.Need-hit-requires-7
 hit-requires-7 c κs = search needs
 
@@ -80,9 +65,6 @@ mul-result-6 c = search needs
 
 add-result-6 : tie.Need-add-result-6
 add-result-6 c = search needs
-
-mul-hit-6 : tie.Need-mul-hit-6
-mul-hit-6 c = search needs
 
 hit-requires-8 : tie.Need-hit-requires-8
 hit-requires-8 c κs = search needs
@@ -96,7 +78,7 @@ add-result-7 c = search needs
 returns : tie.Need-returns
 returns c =
     let a = c .before .before .before .before .before .before .before .before .before .args in
-    omega (arith, group-flags (λ b. inside (a .low) (a .low + a .span) (field lowFirst (a .page .now) (8 * a .at + b) (a .w))) (a .w))
+    omega (arith, eight-flags (λ j. inside (a .low) (a .low + a .span) (field lowFirst (a .page .now) (8 * a .at + j * 32) 32)))
 
 pub eight-spec : {M : Type 1} → statement M
 eight-spec =
@@ -106,27 +88,21 @@ eight-spec =
     hit-requires-2
     mul-result
     add-result
-    mul-hit
     hit-requires-3
     mul-result-2
     add-result-2
-    mul-hit-2
     hit-requires-4
     mul-result-3
     add-result-3
-    mul-hit-3
     hit-requires-5
     mul-result-4
     add-result-4
-    mul-hit-4
     hit-requires-6
     mul-result-5
     add-result-5
-    mul-hit-5
     hit-requires-7
     mul-result-6
     add-result-6
-    mul-hit-6
     hit-requires-8
     mul-result-7
     add-result-7

@@ -1,0 +1,174 @@
+-- Entries of one word tested at once: what a lane's test says, that no lane reaches the next, and the tests of even and odd entries together.
+use mathlib.Core.Path.{_≡_, sym, ap, ap₂, _∙_}
+use mathlib.Core.Bool.{Bool}
+use Prim.Native.Nat.{ℕ, _+_, _-_, _*_, _/_, _%_, _^_, _≤_, _<_, min}
+use native.Mathlib.Nat.{mul-assoc, mul-comm, add-mul, add-zero, mod-lt, lt-of-lt-of-le}
+use native.Mathlib.Omega.{arith}
+use lib.Pow.{pow-pos, pow-add, pow-mono, split, shr-shr, shl-shr}
+use lib.Bits.{bitAnd, and-block, and-zero-l, and-zero-r, and-le-l, and-shr}
+use Rattle.rules.specs.Bits.{flag}
+use Rattle.words.specs.Bits.{flag-lt}
+use Rattle.compare.specs.Range.{inside}
+use Rattle.compare.specs.Inside.{Place, place, inside-cut}
+use Rattle.compare.specs.Inside.Place.{low as below, high as above, within}
+use Rattle.kernels.specs.Lanes.{lanes, lanes-ext, lanes-lt, lanes-add, lanes-sub, lanes-mul, lanes-and, lanes-mask, every}
+
+-- does the j-th number of w bits in x lie from lo to hi
+unfoldable pub tested : ℕ → ℕ → ℕ → ℕ → ℕ → Bool
+tested lo hi w x j = inside lo hi (x / 2 ^ (j * w) % 2 ^ w)
+
+-- the bits of tests 2 × i and 2 × i + 1
+unfoldable pub pair : (ℕ → Bool) → ℕ → ℕ
+pair t i = flag (t (2 * i)) + flag (t (2 * i + 1)) * 2
+
+-- ---- one lane's test: bit w of x + (2 ^ w - lo) says lo ≤ x, and bit w of 2 ^ w + hi - x says x ≤ hi
+
+-- bit w of both numbers, of which each is a digit and w bits
+tops : (w a b r s : ℕ) → r < 2 ^ w → s < 2 ^ w → bitAnd (bitAnd (a * 2 ^ w + r) (b * 2 ^ w + s)) (2 ^ w) ≡ bitAnd (bitAnd a b) 1 * 2 ^ w
+tops w a b r s hr hs =
+    let top : 2 ^ w ≡ 1 * 2 ^ w + 0 = omega arith in
+    let small : bitAnd r s < 2 ^ w = omega (arith, and-le-l r s) in
+    ap₂ bitAnd (and-block w a b r s hr hs) top ∙ and-block w (bitAnd a b) 1 (bitAnd r s) 0 small (pow-pos w) ∙ rw (and-zero-r (bitAnd r s), add-zero)
+
+pub lane-test : (w lo hi x : ℕ) → x < 2 ^ w → lo ≤ 2 ^ w → hi < 2 ^ w
+    → bitAnd (bitAnd (x + (2 ^ w - lo)) (2 ^ w + hi - x)) (2 ^ w) ≡ flag (inside lo hi x) * 2 ^ w
+lane-test w lo hi x hx hl hh = go (place lo hi x)
+  where
+    digits : (p q a b r s : ℕ) → p ≡ a * 2 ^ w + r → q ≡ b * 2 ^ w + s → r < 2 ^ w → s < 2 ^ w → bitAnd (bitAnd p q) (2 ^ w) ≡ bitAnd (bitAnd a b) 1 * 2 ^ w
+    digits p q a b r s e f hr hs = ap₂ (λ (u v : ℕ). bitAnd (bitAnd u v) (2 ^ w)) e f ∙ tops w a b r s hr hs
+
+    go : Place lo hi x → bitAnd (bitAnd (x + (2 ^ w - lo)) (2 ^ w + hi - x)) (2 ^ w) ≡ flag (inside lo hi x) * 2 ^ w
+    go (below h k) =
+        let p : ℕ = x + (2 ^ w - lo) in
+        let q : ℕ = 2 ^ w + hi - x in
+        digits p q 0 (q / 2 ^ w) p (q % 2 ^ w) (omega arith) (sym (split q w)) (omega arith) (mod-lt q (pow-pos w)) ∙ rw (and-zero-l (q / 2 ^ w), k)
+    go (above h k) =
+        let p : ℕ = x + (2 ^ w - lo) in
+        let q : ℕ = 2 ^ w + hi - x in
+        digits p q (p / 2 ^ w) 0 (p % 2 ^ w) q (sym (split p w)) (omega arith) (mod-lt p (pow-pos w)) (omega arith) ∙ rw (and-zero-r (p / 2 ^ w), k)
+    go (within h i k) =
+        let p : ℕ = x + (2 ^ w - lo) in
+        let q : ℕ = 2 ^ w + hi - x in
+        digits p q 1 1 (x - lo) (hi - x) (omega arith) (omega arith) (omega arith) (omega arith) ∙ rw k
+
+-- ---- n entries, w bits each, in lanes of 2 × w bits
+
+-- a lane has room for a number of w + 1 bits
+room : (w : ℕ) {x : ℕ} → 0 < w → x < 2 ^ w * 2 → x < 2 ^ (2 * w)
+room w {x} some h =
+    let more : 2 ^ (w + 1) ≤ 2 ^ (2 * w) = pow-mono {i = w + 1} {j = 2 * w} (omega arith) in
+    omega (arith, pow-add 2 w 1)
+
+pub every-fits : (n w c : ℕ) → 0 < w → n * (2 * w) ≤ 64 → c < 2 ^ w * 2 → c * lanes n (2 * w) (λ i. 1) < 2 ^ 64
+every-fits n w c some fits h =
+    rw (every n (2 * w) c) (lt-of-lt-of-le (lanes-lt n (2 * w) (λ i. c) (λ i l. room w some h)) (pow-mono {i = n * (2 * w)} {j = 64} fits))
+
+module _ (n w lo hi : ℕ) (some : 0 < w) (hl : lo ≤ 2 ^ w) (hh : hi < 2 ^ w) where
+  module _ (f : ℕ → ℕ) (hf : (i : ℕ) → i < n → f i < 2 ^ w) where
+    -- nothing is borrowed
+    pub no-borrow : lanes n (2 * w) f ≤ (2 ^ w + hi) * lanes n (2 * w) (λ i. 1)
+    no-borrow =
+        let e : (2 ^ w + hi) * lanes n (2 * w) (λ i. 1) ≡ lanes n (2 * w) (λ i. 2 ^ w + hi) = every n (2 * w) (2 ^ w + hi) in
+        omega (arith, lanes-sub n (2 * w) (λ i. 2 ^ w + hi) f (λ i l. omega (arith, hf i l)))
+
+    -- the sum fits
+    pub no-carry : lanes n (2 * w) f + (2 ^ w - lo) * lanes n (2 * w) (λ i. 1) < 2 ^ (n * (2 * w))
+    no-carry =
+        let e : (2 ^ w - lo) * lanes n (2 * w) (λ i. 1) ≡ lanes n (2 * w) (λ i. 2 ^ w - lo) = every n (2 * w) (2 ^ w - lo) in
+        rw (e, lanes-add n (2 * w) f (λ i. 2 ^ w - lo)) (lanes-lt n (2 * w) (λ i. f i + (2 ^ w - lo)) (λ i l. room w some (omega (arith, hf i l))))
+
+    -- both ends' tests of all lanes at once
+    pub lanes-test :
+        bitAnd (bitAnd (lanes n (2 * w) f + (2 ^ w - lo) * lanes n (2 * w) (λ i. 1)) ((2 ^ w + hi) * lanes n (2 * w) (λ i. 1) - lanes n (2 * w) f) / 2 ^ w) (lanes n (2 * w) (λ i. 1))
+        ≡ lanes n (2 * w) (λ i. flag (inside lo hi (f i)))
+    lanes-test =
+        let d : ℕ = 2 * w in
+        let ones : ℕ = lanes n d (λ i. 1) in
+        let p : ℕ → ℕ = λ i. f i + (2 ^ w - lo) in
+        let q : ℕ → ℕ = λ i. 2 ^ w + hi - f i in
+        let ge : (2 ^ w - lo) * ones ≡ lanes n d (λ i. 2 ^ w - lo) = every n d (2 ^ w - lo) in
+        let le : (2 ^ w + hi) * ones ≡ lanes n d (λ i. 2 ^ w + hi) = every n d (2 ^ w + hi) in
+        let sum : lanes n d f + (2 ^ w - lo) * ones ≡ lanes n d p = ap (λ (x : ℕ). lanes n d f + x) ge ∙ lanes-add n d f (λ i. 2 ^ w - lo) in
+        let rest : (2 ^ w + hi) * ones - lanes n d f ≡ lanes n d q = omega (arith, lanes-sub n d (λ i. 2 ^ w + hi) f (λ i l. omega (arith, hf i l))) in
+        let hp : (i : ℕ) → i < n → p i < 2 ^ d = λ i l. room w some (omega (arith, hf i l)) in
+        let hq : (i : ℕ) → i < n → q i < 2 ^ d = λ i l. room w some (omega (arith, hf i l)) in
+        let ht : (i : ℕ) → i < n → 2 ^ w < 2 ^ d = λ i l. room w some (omega (arith, pow-pos w)) in
+        let hpq : (i : ℕ) → i < n → bitAnd (p i) (q i) < 2 ^ d = λ i l. omega (arith, and-le-l (p i) (q i), hp i l) in
+        let both : bitAnd (lanes n d p) (lanes n d q) ≡ lanes n d (λ i. bitAnd (p i) (q i)) = lanes-and n d p q hp hq in
+        let marked : bitAnd (lanes n d (λ i. bitAnd (p i) (q i))) (ones * 2 ^ w) ≡ lanes n d (λ i. flag (inside lo hi (f i))) * 2 ^ w =
+        ap (bitAnd (lanes n d (λ i. bitAnd (p i) (q i)))) (mul-comm ones (2 ^ w) ∙ every n d (2 ^ w))
+        ∙ lanes-and n d (λ i. bitAnd (p i) (q i)) (λ i. 2 ^ w) hpq ht
+        ∙ lanes-ext n d (λ i l. lane-test w lo hi (f i) (hf i l) hl hh)
+        ∙ sym (lanes-mul n d (λ i. flag (inside lo hi (f i))) (2 ^ w)) in
+        let down : bitAnd (bitAnd (lanes n d p) (lanes n d q) / 2 ^ w) ones ≡ bitAnd (bitAnd (lanes n d p) (lanes n d q)) (ones * 2 ^ w) / 2 ^ w =
+        ap (bitAnd (bitAnd (lanes n d p) (lanes n d q) / 2 ^ w)) (sym (shl-shr ones w))
+        ∙ sym (and-shr (bitAnd (lanes n d p) (lanes n d q)) (ones * 2 ^ w) w) in
+        ap₂ (λ (u v : ℕ). bitAnd (bitAnd u v / 2 ^ w) ones) sum rest
+        ∙ down
+        ∙ ap (λ (x : ℕ). bitAnd x (ones * 2 ^ w) / 2 ^ w) both
+        ∙ ap (λ (x : ℕ). x / 2 ^ w) marked
+        ∙ shl-shr (lanes n d (λ i. flag (inside lo hi (f i)))) w
+
+-- ---- the entries of a word, even and odd ones apart
+
+-- every second number of w bits in x
+abbrev evensOf : ℕ → ℕ → ℕ → ℕ
+evensOf w x i = x / 2 ^ (i * (2 * w)) % 2 ^ w
+
+module _ (n w lo hi : ℕ) (some : 0 < w) where
+  low-fits : min lo (2 ^ w) ≤ 2 ^ w
+  low-fits = omega arith
+
+  high-fits : min hi (2 ^ w - 1) < 2 ^ w
+  high-fits = omega (arith, pow-pos w)
+
+  evens : (x : ℕ) → bitAnd x ((2 ^ w - 1) * lanes n (2 * w) (λ i. 1)) ≡ lanes n (2 * w) (evensOf w x)
+  evens x = ap (bitAnd x) (every n (2 * w) (2 ^ w - 1)) ∙ lanes-mask n (2 * w) w x (omega arith)
+
+  evens-lt : (x i : ℕ) → i < n → evensOf w x i < 2 ^ w
+  evens-lt x i l = mod-lt (x / 2 ^ (i * (2 * w))) (pow-pos w)
+
+  -- what the test of the even ones asks, and gives
+  pub evens-ready : (x : ℕ) → n * (2 * w) ≤ 64 → w < 64
+      → (w < 64)
+      × (bitAnd x ((2 ^ w - 1) * lanes n (2 * w) (λ i. 1)) + (2 ^ w - min lo (2 ^ w)) * lanes n (2 * w) (λ i. 1) < 2 ^ 64)
+      × (bitAnd x ((2 ^ w - 1) * lanes n (2 * w) (λ i. 1)) ≤ (2 ^ w + min hi (2 ^ w - 1)) * lanes n (2 * w) (λ i. 1))
+  evens-ready x fits narrow =
+      rw (evens x) (
+        narrow,
+        lt-of-lt-of-le (no-carry n w (min lo (2 ^ w)) (min hi (2 ^ w - 1)) some low-fits high-fits (evensOf w x) (evens-lt x)) (pow-mono {i = n * (2 * w)} {j = 64} fits),
+        no-borrow n w (min lo (2 ^ w)) (min hi (2 ^ w - 1)) some low-fits high-fits (evensOf w x) (evens-lt x),
+      )
+
+  pub evens-test : (x : ℕ)
+      → bitAnd (bitAnd (bitAnd x ((2 ^ w - 1) * lanes n (2 * w) (λ i. 1)) + (2 ^ w - min lo (2 ^ w)) * lanes n (2 * w) (λ i. 1))
+      ((2 ^ w + min hi (2 ^ w - 1)) * lanes n (2 * w) (λ i. 1) - bitAnd x ((2 ^ w - 1) * lanes n (2 * w) (λ i. 1))) / 2 ^ w) (lanes n (2 * w) (λ i. 1))
+      ≡ lanes n (2 * w) (λ i. flag (inside lo hi (evensOf w x i)))
+  evens-test x =
+      rw (evens x)
+      (lanes-test n w (min lo (2 ^ w)) (min hi (2 ^ w - 1)) some low-fits high-fits (evensOf w x) (evens-lt x)
+      ∙ lanes-ext n (2 * w) (λ i l. ap flag (inside-cut w lo hi (evensOf w x i) (evens-lt x i l))))
+
+  -- even and odd ones together
+  pub pairs : (x : ℕ)
+      → lanes n (2 * w) (λ i. flag (inside lo hi (evensOf w x i))) + lanes n (2 * w) (λ i. flag (inside lo hi (evensOf w (x / 2 ^ w) i))) * 2
+      ≡ lanes n (2 * w) (pair (tested lo hi w x))
+  unfolding pair tested
+  pairs x =
+      let f : ℕ → ℕ = λ i. flag (inside lo hi (evensOf w x i)) in
+      let g : ℕ → ℕ = λ i. flag (inside lo hi (evensOf w (x / 2 ^ w) i)) in
+      let even : (i : ℕ) → i * (2 * w) ≡ 2 * i * w = λ i. rw (← mul-assoc, mul-comm i) in
+      let odd : (i : ℕ) → w + i * (2 * w) ≡ (2 * i + 1) * w = λ i. omega (arith, add-mul (2 * i) 1 w, even i) in
+      let here : (i : ℕ) → f i ≡ flag (inside lo hi (x / 2 ^ (2 * i * w) % 2 ^ w)) = λ i. ap (λ (k : ℕ). flag (inside lo hi (x / 2 ^ k % 2 ^ w))) (even i) in
+      let next : (i : ℕ) → g i ≡ flag (inside lo hi (x / 2 ^ ((2 * i + 1) * w) % 2 ^ w)) =
+      λ i. ap (λ (k : ℕ). flag (inside lo hi (k % 2 ^ w))) (shr-shr x w (i * (2 * w)) ∙ ap (λ (k : ℕ). x / 2 ^ k) (odd i)) in
+      ap (λ (k : ℕ). lanes n (2 * w) f + k) (lanes-mul n (2 * w) g 2) ∙ lanes-add n (2 * w) f (λ i. g i * 2)
+      ∙ lanes-ext n (2 * w) (λ i l. ap₂ (λ (p q : ℕ). p + q * 2) (here i) (next i))
+
+pub pair-lt : (t : ℕ → Bool) (i : ℕ) → pair t i < 4
+unfolding pair
+pair-lt t i = omega (arith, flag-lt (t (2 * i)), flag-lt (t (2 * i + 1)))
+
+pub pairs-fit : (n w : ℕ) (t : ℕ → Bool) → 0 < w → n * (2 * w) ≤ 64 → lanes n (2 * w) (pair t) < 2 ^ 64
+pairs-fit n w t some fits =
+    lt-of-lt-of-le (lanes-lt n (2 * w) (pair t) (λ i l. lt-of-lt-of-le (pair-lt t i) (pow-mono {i = 2} {j = 2 * w} (omega arith)))) (pow-mono {i = n * (2 * w)} {j = 64} fits)
