@@ -34,6 +34,7 @@ install: lib
 	tools/install '$(PREFIX)' '$(DESTDIR)'
 
 bench: need-cargo lib
+	@tools/inlined
 	@$(CARGO) bench --offline --locked --quiet --manifest-path rust/Cargo.toml
 	@echo 'Drawn in target/speed.svg. tools/benchmarks-doc measures anew and puts both into docs/'
 
