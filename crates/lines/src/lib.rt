@@ -1,23 +1,23 @@
-// A line of text: laid out first, then written. What is past its 78 places is left out.
+// A line of text: laid out first, then written. What is past its 120 places is left out.
 ghost use Prim.Native.Nat.{_<_};
 use libc::STDOUT_FILENO;
 
 pub struct Line {
-    text: [u8; 78],
+    text: [u8; 120],
     used: usize,
 }
 
 impl Line {
     pub fn new() -> Line {
         Line {
-            text: [b' '; 78],
+            text: [b' '; 120],
             used: 0,
         }
     }
 
     fn place(self, b: u8) -> Line {
         let at = self.used;
-        if 78 <= at {
+        if 120 <= at {
             return self;
         }
         let mut text = self.text;
@@ -88,11 +88,15 @@ impl Line {
         }
     }
 
-    pub fn end(self) {
+    pub fn write(self, fd: i32) {
         let text = self.text;
-        let all: &[u8; 78] = &text;
-        write_front(all, self.used);
-        io::write_all(STDOUT_FILENO, b"\n");
+        let all: &[u8; 120] = &text;
+        write_front(fd, all, self.used);
+        io::write_all(fd, b"\n");
+    }
+
+    pub fn end(self) {
+        self.write(STDOUT_FILENO);
     }
 }
 
@@ -112,8 +116,8 @@ fn digit(d: u8) -> u8
     if d < 10 { b'0' + d } else { b'A' - 10 + d }
 }
 
-fn write_front(text: &[u8], n: usize) {
+fn write_front(fd: i32, text: &[u8], n: usize) {
     if n <= text.len() {
-        io::write_all(STDOUT_FILENO, &text[0..n]);
+        io::write_all(fd, &text[0..n]);
     }
 }

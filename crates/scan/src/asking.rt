@@ -1,0 +1,206 @@
+// What is asked besides the layout: the options, and the places of the words left.
+use crate::arguments::MOST;
+use crate::arguments::same;
+use crate::numbers::Count;
+use crate::numbers::read_count;
+use crate::telling;
+
+pub struct Asked {
+    pub width: u32,
+    pub has_width: bool,
+    pub entries: u32,
+    pub last: u32,
+    pub has_last: bool,
+    // the place of the bitmap file's name, 0 for none
+    pub bitmap: usize,
+    pub numbers: bool,
+    // the option whose number or name comes next
+    waits: u32,
+    pub words: usize,
+    pub wrong: bool,
+}
+
+const NOTHING: u32 = 0;
+
+const WIDTH: u32 = 1;
+
+const ENTRIES: u32 = 2;
+
+const LAST: u32 = 3;
+
+const BITMAP: u32 = 4;
+
+// A day of seconds.
+const DAY: u32 = 86400;
+
+impl Asked {
+    fn new() -> Asked {
+        Asked {
+            width: 0,
+            has_width: false,
+            entries: DAY,
+            last: 0,
+            has_last: false,
+            bitmap: 0,
+            numbers: false,
+            waits: NOTHING,
+            words: 0,
+            wrong: false,
+        }
+    }
+
+    fn spoiled(mut self) -> Asked {
+        self.wrong = true;
+        self
+    }
+
+    fn waiting(mut self, option: u32) -> Asked {
+        self.waits = option;
+        self
+    }
+
+    fn listing(mut self) -> Asked {
+        self.numbers = true;
+        self
+    }
+
+    // The number of the option that waits for one.
+    fn numbered(mut self, n: u32) -> Asked {
+        let option = self.waits;
+        self.waits = NOTHING;
+        match option {
+            WIDTH => {
+                self.width = n;
+                self.has_width = true;
+            }
+            ENTRIES => {
+                self.entries = n;
+            }
+            _ => {
+                self.last = n;
+                self.has_last = true;
+            }
+        }
+        self
+    }
+
+    fn file(mut self, at: usize) -> Asked {
+        self.waits = NOTHING;
+        self.bitmap = at;
+        self
+    }
+
+    // A word that is no option and no option's.
+    fn word(mut self, at: usize, words: &mut [usize]) -> Asked {
+        let k = self.words;
+        if words.len() <= k {
+            return self;
+        }
+        words[k] = at;
+        self.words = k + 1;
+        self
+    }
+}
+
+// All arguments after the layout, one after the other.
+pub fn sorted_out(words: &mut [usize]) -> Asked {
+    let all = os::arg_count();
+    let mut asked = Asked::new();
+    if MOST < all {
+        telling::say(b"scan: at most 1023 words are taken after the program's name.");
+        return asked.spoiled();
+    }
+    let mut at: usize = 2;
+    while at < all {
+        asked = argument(asked, at, words);
+        at += 1;
+    }
+    finished(asked)
+}
+
+fn argument(asked: Asked, at: usize, words: &mut [usize]) -> Asked {
+    if asked.wrong {
+        return asked;
+    }
+    let mut word = io::buffer();
+    let n = os::arg(at, &mut word);
+    if os::errno() != 0 {
+        os::fail(b"scan: a word is too long");
+        return asked.spoiled();
+    }
+    let option = asked.waits;
+    match option {
+        NOTHING => opened(asked, at, &word[..n], words),
+        BITMAP => asked.file(at),
+        _ => number(asked, at, &word[..n]),
+    }
+}
+
+// An option's number.
+fn number(asked: Asked, at: usize, word: &[u8]) -> Asked {
+    let Count::Is(n) = read_count(word) else {
+        telling::no_count(at);
+        return asked.spoiled();
+    };
+    asked.numbered(n)
+}
+
+// A word by itself: an option, or one of the words left.
+fn opened(asked: Asked, at: usize, word: &[u8], words: &mut [usize]) -> Asked {
+    if !is_option(word) {
+        return asked.word(at, words);
+    }
+    if same(word, b"--numbers") {
+        return asked.listing();
+    }
+    let option = option_named(word);
+    if option == NOTHING {
+        telling::unknown_option(word);
+        return asked.spoiled();
+    }
+    asked.waiting(option)
+}
+
+fn is_option(word: &[u8]) -> bool {
+    if word.len() < 2 {
+        return false;
+    }
+    word[0] == b'-' && word[1] == b'-'
+}
+
+fn option_named(word: &[u8]) -> u32 {
+    if same(word, b"--width") {
+        return WIDTH;
+    }
+    if same(word, b"--entries") {
+        return ENTRIES;
+    }
+    if same(word, b"--last") {
+        return LAST;
+    }
+    if same(word, b"--bitmap") {
+        return BITMAP;
+    }
+    NOTHING
+}
+
+// No option may be left without what it waits for, and no page has more than 16,384 entries.
+fn finished(asked: Asked) -> Asked {
+    if asked.wrong {
+        return asked;
+    }
+    if 16384 < asked.last {
+        telling::say(b"scan: --last takes at most 16384, the entries of a full page.");
+        return asked.spoiled();
+    }
+    let option = asked.waits;
+    if option == NOTHING {
+        return asked;
+    }
+    if option == BITMAP {
+        telling::say(b"scan: --bitmap needs the name of a file behind it.");
+    } else {
+        telling::say(b"scan: the option at the end needs a number behind it.");
+    }
+    asked.spoiled()
+}

@@ -1,0 +1,208 @@
+// A whole column: what is asked of it judged, its pages answered one after the other, the answer told.
+ghost use Prim.Native.Nat.{_≤_};
+ghost use lib.ListN.{length};
+use crate::arguments::MOST;
+use crate::arguments::place;
+use crate::asking::Asked;
+use crate::asking::sorted_out;
+use crate::comparisons;
+use crate::comparisons::Comparison;
+use crate::day;
+use crate::day::CELLS;
+use crate::day::Day;
+use crate::files;
+use crate::layouts;
+use crate::layouts::Question;
+use crate::pages;
+use crate::picture;
+use crate::telling;
+use libc::STDERR_FILENO;
+
+// Bytes of a full page's bitmap.
+const BITMAP: usize = 2048;
+
+// Room for a dictionary that is too long as well.
+const DICTIONARY: usize = 65540;
+
+pub fn asked(layout: u32) {
+    let mut words = [0usize; MOST];
+    let asked = sorted_out(&mut words);
+    if asked.wrong {
+        return;
+    }
+    if layouts::needs_width(layout) && !asked.has_width {
+        telling::no_width();
+        return;
+    }
+    let comparison = comparisons::at_end(&words, asked.words);
+    if comparison.words == 0 {
+        return;
+    }
+    split(
+        question(layout, asked, comparison),
+        asked,
+        comparison.words,
+        &words,
+    );
+}
+
+fn question(layout: u32, asked: Asked, comparison: Comparison) -> Question {
+    Question {
+        layout: layout,
+        width: asked.width,
+        op: comparison.op,
+        a: comparison.a,
+        b: comparison.b,
+    }
+}
+
+// The words before the comparison: the dictionary where there is one, and the pages.
+fn split(q: Question, asked: Asked, taken: usize, words: &[usize]) {
+    let first = (q.layout == layouts::DICTIONARY) as usize;
+    let last = before_comparison(asked.words, taken, words);
+    if last <= first {
+        telling::no_pages(first);
+        return;
+    }
+    let entries = entries_of(asked, last - first - 1);
+    if pages::needed(entries) < last - first {
+        telling::many_pages(entries, last - first);
+        return;
+    }
+    with_dictionary(q, asked, entries, place(words, 0), &words[first..last]);
+}
+
+// How many of the m words stand before the comparison.
+fn before_comparison(m: usize, taken: usize, words: &[usize]) -> usize
+    ensures { λ r. ⌜ r ≤ length (now (words .entry)) ⌝ }
+{
+    if m <= taken {
+        return 0;
+    }
+    if words.len() < m - taken {
+        return 0;
+    }
+    m - taken
+}
+
+// The column's entries: given, or by the pages before the last and the last page's.
+fn entries_of(asked: Asked, before: usize) -> usize {
+    if asked.has_last {
+        return pages::start_of(before) + asked.last as usize;
+    }
+    asked.entries as usize
+}
+
+fn with_dictionary(q: Question, asked: Asked, entries: usize, at: usize, files: &[usize]) {
+    if q.layout != layouts::DICTIONARY {
+        with_bitmap(q, asked, entries, &[], files);
+        return;
+    }
+    let fd = files::opened(at);
+    if fd < 0 {
+        return;
+    }
+    let mut dictionary = [0u8; DICTIONARY];
+    let n = io::read_full(fd, &mut dictionary);
+    if !files::ended(fd, at) {
+        return;
+    }
+    if !layouts::is_dictionary(&dictionary[..n]) {
+        telling::refused(at, 14);
+        telling::say(b"Without its dictionary no page is answered.");
+        return;
+    }
+    with_bitmap(q, asked, entries, &dictionary[..n], files);
+}
+
+// Below 0 stands for no file.
+fn with_bitmap(q: Question, asked: Asked, entries: usize, dictionary: &[u8], files: &[usize]) {
+    if asked.bitmap == 0 {
+        told(q, asked, entries, dictionary, files, -1);
+        return;
+    }
+    let out = files::made(asked.bitmap);
+    if out < 0 {
+        return;
+    }
+    told(q, asked, entries, dictionary, files, out);
+    libc::close(out);
+}
+
+fn told(q: Question, asked: Asked, entries: usize, dictionary: &[u8], files: &[usize], out: i32) {
+    let mut selected = [0u32; CELLS];
+    let mut answered = [0u32; CELLS];
+    let before = Day::new(asked.numbers);
+    let day = walked(
+        before,
+        q,
+        entries,
+        dictionary,
+        files,
+        out,
+        &mut selected,
+        &mut answered,
+    );
+    let sentence = picture::sentence(day, entries);
+    if asked.numbers {
+        sentence.write(STDERR_FILENO);
+    } else {
+        sentence.end();
+        picture::drawn(entries, &answered, &selected);
+    }
+    telling::lost(day.lost);
+    telling::missing(entries, files.len());
+}
+
+// The pages one after the other.
+fn walked(
+    before: Day,
+    q: Question,
+    entries: usize,
+    dictionary: &[u8],
+    files: &[usize],
+    out: i32,
+    selected: &mut [u32; CELLS],
+    answered: &mut [u32; CELLS],
+) -> Day {
+    let mut day = before;
+    let mut k: usize = 0;
+    while k < files.len() {
+        day = page_answered(
+            day,
+            q,
+            entries,
+            dictionary,
+            files[k],
+            k,
+            out,
+            selected,
+            answered,
+        );
+        k += 1;
+    }
+    day
+}
+
+// Page k, whose file the argument at `at` names.
+fn page_answered(
+    day: Day,
+    q: Question,
+    entries: usize,
+    dictionary: &[u8],
+    at: usize,
+    k: usize,
+    out: i32,
+    selected: &mut [u32; CELLS],
+    answered: &mut [u32; CELLS],
+) -> Day {
+    let mut bitmap = [0u8; BITMAP];
+    let n = pages::entries_of(k, entries);
+    let is_answered = pages::answered(q, dictionary, at, n, &mut bitmap);
+    pages::kept(out, &bitmap, n);
+    if !is_answered {
+        return day.loses();
+    }
+    let start = pages::start_of(k);
+    day::page_passed(day, start, start + n, &bitmap, selected, answered)
+}
