@@ -7,7 +7,7 @@
 CARGO = CAHERMISK_LIB_DIR=$(CURDIR)/target/staticlib CARGO_TARGET_DIR=$(CURDIR)/target/rust cargo
 
 help:
-	@echo 'make run     prove the examples program and what it stands on, and run it'
+	@echo 'make run     prove the program scan and what it stands on, and scan the sample day'
 	@echo 'make test    the gate: prove everything from nothing, then test the library just proved'
 	@echo 'make lib     prove the library and write target/staticlib/libcahermisk.a'
 	@echo 'make install the library, its header and cahermisk.pc below PREFIX (/usr/local), or DESTDIR/PREFIX'
@@ -18,8 +18,8 @@ help:
 
 # Nothing is shown of the proofs unless one fails.
 run: need-rt
-	@said=$$(rt check examples 2>&1) || { printf '%s\n' "$$said"; exit 1; }
-	@tools/run-program examples
+	@said=$$(rt check scan 2>&1) || { printf '%s\n' "$$said"; exit 1; }
+	@tools/sample-day
 
 test: need-rt need-cargo need-cc need-c++
 	@tools/gate
