@@ -3,3 +3,4 @@ pub mod Digits
 pub mod Packed
 pub mod Filled
 pub mod RoundTrip
+pub mod Groups

@@ -1,4 +1,6 @@
 // Entries of one width laid end to end in a page: into places, judged, and back. Their laws stand in specs/.
+pub mod groups;
 pub mod judging;
 pub mod laying;
 pub mod unpacking;
+pub mod widths;

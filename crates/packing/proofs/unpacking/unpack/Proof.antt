@@ -1,4 +1,4 @@
--- `packing::unpacking::unpack` meets its contract: each turn fills one place more.
+-- `packing::unpacking::unpack` meets its contract: behind the groups, each turn fills one place more.
 use mathlib.Core.Path.{_≡_}
 use Prim.Native.Nat.{_-_, _≤_}
 use native.Mathlib.Nat.{mul-le-mul}
@@ -7,8 +7,8 @@ use lib.ListN.{length, length-set}
 use borrow.Author.Needs.{needs}
 use Rattle.rules.specs.Bits.{entry, put, tabulate}
 use Rattle.rules.specs.Bits.Order.{lowFirst}
-use Rattle.words.specs.Puts.{put-none}
 use Rattle.words.specs.Tabulated.{put-tabulate}
+use Rattle.packing.specs.Groups.{in-place, further-in-place}
 use Rattle.packing.proofs.unpacking.unpack.Statement.{statement}
 use Rattle.packing.proofs.unpacking.unpack.Tie as tie
 
@@ -18,13 +18,18 @@ Inv-loop page w n entries₀ i₀ entries i = (i ≤ n) × (length entries ≡ l
 abbrev μ-loop : tie.MeasureT-loop
 μ-loop page w n entries₀ i₀ entries i = n - i
 
+unpack-front-requires : tie.Need-unpack-front-requires Inv-loop μ-loop
+unpack-front-requires c κs = search needs
+
 loop-holds : tie.Need-loop-holds Inv-loop μ-loop
-unfolding tabulate
-loop-holds c = (omega arith, omega arith, put-none (c .before .before .args .entries .now) 0)
+loop-holds c =
+    let a = c .before .before .before .before .before .before .args in
+    let front = c .before .before .unpack-front in
+    (omega arith, omega arith, in-place (a .entries .now) (front .result) (entry lowFirst (a .page .now) (a .w)) (front .ensures .1))
 
 mul-entry-any : tie.Need-mul-entry-any Inv-loop μ-loop
 mul-entry-any c =
-    let a = c .before .before .before .before .args in
+    let a = c .before .before .before .before .before .before .before .before .args in
     let l = c .before .loop in
     omega (arith, mul-le-mul {n₁ = l .i} {m₁ = a .w} {n₂ = 16384} {m₂ = 32} (omega arith) (omega arith))
 
@@ -45,11 +50,11 @@ loop-less c = search needs
 
 loop-again : tie.Need-loop-again Inv-loop μ-loop
 loop-again c =
-    let a = c .before .before .before .before .before .args in
+    let a = c .before .before .before .before .before .before .before .before .before .args in
     let l = c .before .before .loop in (
       omega arith,
       simp length-set (l .inv .1),
-      rw (l .inv .2, c .entry-any .ensures) (put-tabulate (a .entries .now) (l .i) (entry lowFirst (a .page .now) (a .w)) (omega arith)),
+      rw (l .inv .2, c .entry-any .ensures) (put-tabulate _ (l .i) (entry lowFirst (a .page .now) (a .w)) (omega arith)),
     )
 
 same-length : tie.Need-same-length Inv-loop μ-loop
@@ -57,8 +62,11 @@ same-length c = search needs
 
 returns : tie.Need-returns Inv-loop μ-loop
 returns c =
-    let all : c .before .loop .i ≡ c .before .before .before .before .args .n = omega arith in
-    rw (← all) (c .before .loop .inv .2)
+    let a = c .before .before .before .before .before .before .before .before .args in
+    let front = c .before .before .before .before .unpack-front in
+    let l = c .before .loop in
+    let all : l .i ≡ a .n = omega arith in
+    further-in-place (a .entries .now) (front .result) (a .n) (entry lowFirst (a .page .now) (a .w)) (omega arith) (front .ensures .1) (rw (← all) (l .inv .2))
 
 pub unpack-spec : {M : Type 1} → statement M
 unpack-spec =
@@ -66,6 +74,7 @@ unpack-spec =
     (tie.spec
     Inv-loop
     μ-loop
+    unpack-front-requires
     loop-holds
     mul-entry-any
     entry-any-requires

@@ -1,0 +1,48 @@
+-- Entries by groups of eight, w bytes each: a group more behind those in place, and how many groups a page has room for.
+use mathlib.Core.Path.{_≡_, sym, ap, ap₂, _∙_}
+use mathlib.Core.List.{List}
+use Prim.Native.Nat.{ℕ, zero, suc, _+_, _-_, _*_, _/_, _≤_, _<_}
+use native.Mathlib.Nat.{add-mul, mul-assoc, mul-zero, div-mul-le-self, div-lt-iff-lt-mul}
+use native.Mathlib.Omega.{arith}
+use lib.ListN.{length}
+use Rattle.rules.specs.Bits.{entry, field, put, tabulate}
+use Rattle.rules.specs.Bits.Order.{lowFirst}
+use Rattle.words.specs.Puts.{put-longer}
+use Rattle.words.specs.Tabulated.{length-tabulate, tabulate-ext, put-tabulate-add}
+
+-- group g, from byte g × w on, behind those in place
+pub next-group : (l page : List ℕ) (w g at : ℕ) {l₁ l₂ : List ℕ} → 8 * (g + 1) ≤ length l → at ≡ g * w → l₁ ≡ put l 0 (tabulate (8 * g) (entry lowFirst page w))
+    → l₂ ≡ put l₁ (8 * g) (tabulate 8 (λ j. field lowFirst page (8 * at + j * w) w)) → l₂ ≡ put l 0 (tabulate (8 * (g + 1)) (entry lowFirst page w))
+next-group l page w g at h here first second =
+    let f : ℕ → ℕ = entry lowFirst page w in
+    let more : 8 * g + 8 ≡ 8 * (g + 1) = omega arith in
+    let place : (j : ℕ) → 8 * at + j * w ≡ (8 * g + j) * w = λ j. rw (here, add-mul, mul-assoc) in
+    let group : tabulate 8 (λ j. field lowFirst page (8 * at + j * w) w) ≡ tabulate 8 (λ j. f (8 * g + j)) =
+    tabulate-ext 8 (λ j. field lowFirst page (8 * at + j * w) w) (λ j. f (8 * g + j)) (λ j _. ap (λ (k : ℕ). field lowFirst page k w) (place j)) in
+    second ∙ ap₂ (λ (s t : List ℕ). put s (8 * g) t) first group ∙ put-tabulate-add l (8 * g) 8 f (omega arith) ∙ ap (λ (n : ℕ). put l 0 (tabulate n f)) more
+
+-- where q groups reach too far, there are fewer, and they do not
+pub fewer-groups : (len w q : ℕ) → 8 ≤ len → len < q * w + 8 → (0 < w) × ((len - 8) / w ≤ q) × ((len - 8) / w * w + 8 ≤ len)
+fewer-groups len zero q h far = absurd (omega (arith, mul-zero q))
+fewer-groups len (suc k) q h far =
+    let some : 0 < suc k = omega arith in
+    let fewer : (len - 8) / suc k < q = div-lt-iff-lt-mul some .1 (omega arith) in
+    (some, omega arith, omega (arith, div-mul-le-self (len - 8) (suc k)))
+
+-- ---- groups first, and then the other entries
+
+-- a list in place of a shorter one
+put-over : (l a b : List ℕ) → length a ≤ length b → put (put l 0 a) 0 b ≡ put l 0 b
+unfolding put
+put-over l a b h = put-longer l a b 0 h
+
+-- where m entries are in place, to put them there changes nothing
+pub in-place : (l : List ℕ) (m : ℕ) (f : ℕ → ℕ) {l₁ : List ℕ} → l₁ ≡ put l 0 (tabulate m f) → l₁ ≡ put l₁ 0 (tabulate m f)
+in-place l m f e =
+    let v : List ℕ = tabulate m f in
+    e ∙ sym (ap (λ (k : List ℕ). put k 0 v) e ∙ put-over l v v (omega arith))
+
+-- and n over them are n in place
+pub further-in-place : (l : List ℕ) (m n : ℕ) (f : ℕ → ℕ) {l₁ l₂ : List ℕ} → m ≤ n → l₁ ≡ put l 0 (tabulate m f) → l₂ ≡ put l₁ 0 (tabulate n f) → l₂ ≡ put l 0 (tabulate n f)
+further-in-place l m n f h first second =
+    second ∙ ap (λ (k : List ℕ). put k 0 (tabulate n f)) first ∙ put-over l (tabulate m f) (tabulate n f) (omega (arith, length-tabulate m f, length-tabulate n f))
