@@ -1,5 +1,9 @@
 // A line of text: laid out first, then written. What is past its 120 places is left out.
-ghost use Prim.Native.Nat.{_<_};
+ghost use mathlib.Core.Path.{_≡_};
+ghost use mathlib.Core.List.{[], _∷_};
+ghost use Prim.Native.Nat.{_<_, _-_, min};
+ghost use lib.ListN.{take};
+ghost use Rattle.lines.specs.Text.{held, laid, decimal, hexDigit, hexadecimal, spelled, padding};
 use libc::STDOUT_FILENO;
 
 pub struct Line {
@@ -8,14 +12,18 @@ pub struct Line {
 }
 
 impl Line {
-    pub fn new() -> Line {
+    pub fn new() -> Line
+        ensures { λ r. ⌜ held r ≡ [] ⌝ }
+    {
         Line {
             text: [b' '; 120],
             used: 0,
         }
     }
 
-    fn place(self, b: u8) -> Line {
+    fn place(self, b: u8) -> Line
+        ensures { λ r. ⌜ held r ≡ laid (held self) (b ∷ []) ⌝ }
+    {
         let at = self.used;
         if 120 <= at {
             return self;
@@ -28,7 +36,9 @@ impl Line {
         }
     }
 
-    pub fn words(self, words: &[u8]) -> Line {
+    pub fn words(self, words: &[u8]) -> Line
+        ensures { λ r. ⌜ held r ≡ laid (held self) (now (words .entry)) ⌝ }
+    {
         let mut line = self;
         let mut i: usize = 0;
         while i < words.len() {
@@ -38,19 +48,25 @@ impl Line {
         line
     }
 
-    pub fn number(self, n: u64) -> Line {
+    pub fn number(self, n: u64) -> Line
+        ensures { λ r. ⌜ held r ≡ laid (held self) (decimal n) ⌝ }
+    {
         let mut digits = [0u8; 20];
         let k = io::decimal(n, &mut digits);
         self.words(&digits[..k])
     }
 
     // An entry, a blank before it.
-    fn entry(self, x: u32) -> Line {
+    fn entry(self, x: u32) -> Line
+        ensures { λ r. ⌜ held r ≡ laid (held self) (32 ∷ decimal x) ⌝ }
+    {
         self.place(b' ').number(x as u64)
     }
 
     // The first n entries of a list.
-    pub fn entries(self, list: &[u32], n: usize) -> Line {
+    pub fn entries(self, list: &[u32], n: usize) -> Line
+        ensures { λ r. ⌜ held r ≡ laid (held self) (spelled decimal (take n (now (list .entry)))) ⌝ }
+    {
         let mut line = self;
         let mut i: usize = 0;
         while i < n && i < list.len() {
@@ -61,12 +77,16 @@ impl Line {
     }
 
     // A byte in hexadecimal, a blank before it.
-    pub fn byte(self, b: u8) -> Line {
+    pub fn byte(self, b: u8) -> Line
+        ensures { λ r. ⌜ held r ≡ laid (held self) (32 ∷ hexadecimal b) ⌝ }
+    {
         self.place(b' ').place(digit(b / 16)).place(digit(b % 16))
     }
 
     // The first n bytes of a list.
-    pub fn bytes(self, list: &[u8], n: usize) -> Line {
+    pub fn bytes(self, list: &[u8], n: usize) -> Line
+        ensures { λ r. ⌜ held r ≡ laid (held self) (spelled hexadecimal (take n (now (list .entry)))) ⌝ }
+    {
         let mut line = self;
         let mut i: usize = 0;
         while i < n && i < list.len() {
@@ -77,15 +97,12 @@ impl Line {
     }
 
     // What follows stands from place `at` on.
-    pub fn column(self, at: usize) -> Line {
-        if at <= self.used {
-            return self;
-        }
-        let text = self.text;
-        Line {
-            text: text,
-            used: at,
-        }
+    pub fn column(self, at: usize) -> Line
+        ensures { λ r. ⌜ held r ≡ laid (held self) (padding at (held self)) ⌝ }
+    {
+        let blanks = [b' '; 120];
+        let k = gap(self.used, at);
+        self.words(&blanks[0..k])
     }
 
     pub fn write(self, fd: i32) {
@@ -110,8 +127,25 @@ pub fn topic(words: &[u8]) {
     say(words);
 }
 
+// How many blanks bring a line to place `at`, or to its end.
+fn gap(used: usize, at: usize) -> usize
+    ensures { λ r. ⌜ r ≡ min at 120 - used ⌝ }
+{
+    if at <= used {
+        return 0;
+    }
+    if 120 <= used {
+        return 0;
+    }
+    if 120 <= at {
+        return 120 - used;
+    }
+    at - used
+}
+
 fn digit(d: u8) -> u8
     requires { ⌜ d < 16 ⌝ }
+    ensures { λ r. ⌜ r ≡ hexDigit d ⌝ }
 {
     if d < 10 { b'0' + d } else { b'A' - 10 + d }
 }

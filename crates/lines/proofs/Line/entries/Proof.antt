@@ -1,17 +1,24 @@
--- `lines::Line::entries` is safe and ends: each turn leaves fewer entries.
+-- `lines::Line::entries` meets its contract: each turn spells one more of the list.
 use Prim.Native.Nat.{_-_}
+use native.Mathlib.Omega.{arith}
 use borrow.Author.Needs.{needs}
+use borrow.Author.Tests.{ltb-true, ltb-false}
+use Rattle.lines.specs.Text.{held, decimal, spelled}
+use Rattle.lines.specs.Laws.{sized, none, Spelt, spelt-next, spelt-all, spelt-list}
 use Rattle.lines.proofs.Line.entries.Statement.{statement}
 use Rattle.lines.proofs.Line.entries.Tie as tie
 
 abbrev Inv-loop : tie.InvT-loop
-Inv-loop list n line₀ i₀ line i = Unit {0}
+Inv-loop list n line₀ i₀ line i = Spelt decimal n list (held line₀) i (held line)
 
 abbrev μ-loop : tie.MeasureT-loop
 μ-loop list n line₀ i₀ line i = n - i
 
 loop-holds : tie.Need-loop-holds Inv-loop μ-loop
-loop-holds c = search needs
+unfolding held spelled
+loop-holds c =
+    let s = c .before in
+    (search needs, search needs, none (s .args .self .text) (s .args .self .used) (sized (s .args .self .text) (s .good .0 .1 .1 .0 .1 .0 .1)))
 
 mul-entry : tie.Need-mul-entry Inv-loop μ-loop
 mul-entry c = search needs
@@ -29,13 +36,25 @@ loop-less : tie.Need-loop-less Inv-loop μ-loop
 loop-less c = search needs
 
 loop-again : tie.Need-loop-again Inv-loop μ-loop
-loop-again c = search needs
+loop-again c =
+    let l = c .before .before .before .before in
+    let s = l .before .before in
+    spelt-next decimal (s .args .n) (s .args .list .now) (held (s .args .self)) (l .loop .i) (held (l .loop .line)) (l .loop .inv) (held (c .entry .result))
+    (omega arith)
+    (omega (arith, ltb-true))
+    (c .entry .ensures)
 
 returns : tie.Need-returns Inv-loop μ-loop
-returns c = search needs
+returns c =
+    let l = c .before .before in
+    let s = l .before .before in
+    spelt-list decimal (s .args .n) (s .args .list .now) (held (s .args .self)) (l .loop .i) (held (l .loop .line)) (l .loop .inv) (omega (arith, ltb-false))
 
 returns-2 : tie.Need-returns-2 Inv-loop μ-loop
-returns-2 c = search needs
+returns-2 c =
+    let l = c .before in
+    let s = l .before .before in
+    spelt-all decimal (s .args .n) (s .args .list .now) (held (s .args .self)) (l .loop .i) (held (l .loop .line)) (l .loop .inv) (omega arith)
 
 pub entries-spec : {M : Type 1} → statement M
 entries-spec =

@@ -1,0 +1,39 @@
+-- `lines::Line::byte` meets its contract: a blank, and two digits behind it.
+use Prim.Native.Nat.{_/_, _%_}
+use Rattle.lines.specs.Text.{held, hexDigit, hexadecimal}
+use Rattle.lines.specs.Laws.{three}
+use borrow.Author.Needs.{needs}
+use Rattle.lines.proofs.Line.byte.Statement.{statement}
+use Rattle.lines.proofs.Line.byte.Tie as tie
+
+place-requires : tie.Need-place-requires
+place-requires c κs = search needs
+
+digit-requires : tie.Need-digit-requires
+digit-requires c κs = search needs
+
+place-requires-2 : tie.Need-place-requires-2
+place-requires-2 c κs = search needs
+
+digit-requires-2 : tie.Need-digit-requires-2
+digit-requires-2 c κs = search needs
+
+place-requires-3 : tie.Need-place-requires-3
+place-requires-3 c κs = search needs
+
+returns : tie.Need-returns
+unfolding hexadecimal
+returns c =
+    let s = c .before .before .before .before .before in
+    cc (three (held (s .args .self)) 32 (hexDigit (s .args .b / 16)) (hexDigit (s .args .b % 16)))
+
+pub byte-spec : {M : Type 1} → statement M
+byte-spec =
+    tie.close
+    (tie.spec
+    place-requires
+    digit-requires
+    place-requires-2
+    digit-requires-2
+    place-requires-3
+    returns)
