@@ -14,8 +14,9 @@ pub struct Asked {
     // the place of the bitmap file's name, 0 for none
     pub bitmap: usize,
     pub numbers: bool,
-    // the option whose number or name comes next
+    // the option whose number or name comes next, and its place
     waits: u32,
+    option: usize,
     pub words: usize,
     pub wrong: bool,
 }
@@ -44,6 +45,7 @@ impl Asked {
             bitmap: 0,
             numbers: false,
             waits: NOTHING,
+            option: 0,
             words: 0,
             wrong: false,
         }
@@ -54,8 +56,9 @@ impl Asked {
         self
     }
 
-    fn waiting(mut self, option: u32) -> Asked {
+    fn waiting(mut self, option: u32, at: usize) -> Asked {
         self.waits = option;
+        self.option = at;
         self
     }
 
@@ -132,14 +135,14 @@ fn argument(asked: Asked, at: usize, words: &mut [usize]) -> Asked {
     match option {
         NOTHING => opened(asked, at, &word[..n], words),
         BITMAP => asked.file(at),
-        _ => number(asked, at, &word[..n]),
+        _ => number(asked, &word[..n]),
     }
 }
 
 // An option's number.
-fn number(asked: Asked, at: usize, word: &[u8]) -> Asked {
+fn number(asked: Asked, word: &[u8]) -> Asked {
     let Count::Is(n) = read_count(word) else {
-        telling::no_count(at);
+        telling::no_count(asked.option);
         return asked.spoiled();
     };
     asked.numbered(n)
@@ -158,7 +161,7 @@ fn opened(asked: Asked, at: usize, word: &[u8], words: &mut [usize]) -> Asked {
         telling::unknown_option(word);
         return asked.spoiled();
     }
-    asked.waiting(option)
+    asked.waiting(option, at)
 }
 
 fn is_option(word: &[u8]) -> bool {
@@ -198,9 +201,9 @@ fn finished(asked: Asked) -> Asked {
         return asked;
     }
     if option == BITMAP {
-        telling::say(b"scan: --bitmap needs the name of a file behind it.");
+        telling::no_file(asked.option);
     } else {
-        telling::say(b"scan: the option at the end needs a number behind it.");
+        telling::no_count(asked.option);
     }
     asked.spoiled()
 }

@@ -91,5 +91,5 @@ fn strip(entries: usize, answered: &[u32; CELLS], selected: &[u32; CELLS]) {
 pub fn drawn(entries: usize, answered: &[u32; CELLS], selected: &[u32; CELLS]) {
     say(b"00 01 02 03 04 05 06 07 08 09 10 11 12 13 14 15 16 17 18 19 20 21 22 23");
     strip(entries, answered, selected);
-    say(b"20 minutes a character: blank none, . : + by thirds, # all, ? not read");
+    say(b"20 minutes a character: blank none, . : + by thirds, # all, ? not answered");
 }

@@ -61,7 +61,10 @@ fn operators(fd: i32) {
 }
 
 fn options(fd: i32) {
-    io::write_all(fd, b"Options: --width N      bits of an entry, 0 to 32\n");
+    io::write_all(
+        fd,
+        b"Options:\n  --width N      bits of an entry, 0 to 32\n",
+    );
     io::write_all(
         fd,
         b"  --entries N    entries of the whole column, 86400 if not given; a page has 16384\n",
@@ -81,20 +84,24 @@ fn options(fd: i32) {
 }
 
 pub fn wrong_layout(word: &[u8]) {
-    about(word, b" is no layout: name one of these first.");
+    about(word, b" is no layout: the first word is one of these.");
     layouts(STDERR_FILENO);
 }
 
 pub fn unknown_option(word: &[u8]) {
-    about(word, b" is no option: use these.");
+    about(word, b" is no option: these are.");
     options(STDERR_FILENO);
 }
 
-pub fn no_count(at: usize) {
+pub fn no_count(option: usize) {
     about_place(
-        at,
-        b" is no number for the option before it: write 0 to 4294967295 there.",
+        option,
+        b" needs a whole number behind it, from 0 to 4294967295.",
     );
+}
+
+pub fn no_file(option: usize) {
+    about_place(option, b" needs the name of a file behind it.");
 }
 
 pub fn no_width() {
@@ -102,7 +109,7 @@ pub fn no_width() {
 }
 
 pub fn no_comparison() {
-    say(b"scan: the page files and a comparison are missing. As in: between 110 420");
+    say(b"scan: name the page files and then the comparison, as in: between 110 420");
     operators(STDERR_FILENO);
 }
 
@@ -115,7 +122,7 @@ pub fn wrong_operator(at: usize) {
 }
 
 pub fn bare_operator(at: usize) {
-    about_place(at, b" needs its constant behind it, as in: between 110 420");
+    about_place(at, b" needs its constant behind it.");
     operators(STDERR_FILENO);
 }
 
