@@ -143,7 +143,7 @@ fn told(q: Question, asked: Asked, entries: usize, dictionary: &[u8], files: &[u
         &mut selected,
         &mut answered,
     );
-    let sentence = picture::sentence(day, entries);
+    let sentence = picture::sentence(day);
     if asked.numbers {
         sentence.write(STDERR_FILENO);
     } else {

@@ -6,6 +6,9 @@ pub const CELL: usize = 1200;
 pub const CELLS: usize = 72;
 
 pub struct Day {
+    // seconds of pages that were answered
+    pub read: usize,
+    // those selected
     pub count: usize,
     pub first: usize,
     pub last: usize,
@@ -18,6 +21,7 @@ pub struct Day {
 impl Day {
     pub fn new(listing: bool) -> Day {
         Day {
+            read: 0,
             count: 0,
             first: 0,
             last: 0,
@@ -28,6 +32,11 @@ impl Day {
 
     pub fn loses(mut self) -> Day {
         self.lost = one_more(self.lost);
+        self
+    }
+
+    fn reads(mut self) -> Day {
+        self.read = one_more(self.read);
         self
     }
 
@@ -73,14 +82,15 @@ fn second_passed(
     answered: &mut [u32; CELLS],
 ) -> Day {
     counted(answered, second);
+    let passed = day.reads();
     if !is_selected {
-        return day;
+        return passed;
     }
     counted(selected, second);
-    if day.listing {
+    if passed.listing {
         lines::Line::new().number(second as u64).end();
     }
-    day.selects(second)
+    passed.selects(second)
 }
 
 // The seconds of an answered page, from `start`, a multiple of 16,384, to before `end`.

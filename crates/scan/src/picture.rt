@@ -20,17 +20,21 @@ pub fn clock(line: Line, second: usize) -> Line {
     two_digits(minutes, second % 60)
 }
 
-pub fn sentence(day: Day, entries: usize) -> Line {
+// How many of the seconds that were read are selected, and the ends of them.
+pub fn sentence(day: Day) -> Line {
+    if day.read == 0 {
+        return Line::new().words(b"no second was read");
+    }
     if day.count == 0 {
         return Line::new()
             .words(b"none of ")
-            .number(entries as u64)
+            .number(day.read as u64)
             .words(b" seconds selected");
     }
     let line = Line::new()
         .number(day.count as u64)
         .words(b" of ")
-        .number(entries as u64);
+        .number(day.read as u64);
     let from = clock(line.words(b" seconds selected, the first at "), day.first);
     clock(from.words(b", the last at "), day.last)
 }
