@@ -175,15 +175,16 @@ fn by_number(before: usize, first: usize, second: usize) -> Comparison {
     wrong(before, first, second)
 }
 
+// The word that is most likely meant as the operator, and what is wrong with it.
 fn wrong(before: usize, first: usize, second: usize) -> Comparison {
     if named_at(second) != NO_OPERATOR {
         telling::bare_operator(second);
-    } else if named_at(first) != NO_OPERATOR
-        || BETWEEN <= numbered_at(first) && numbered_at(first) != NO_OPERATOR
-    {
+    } else if named_at(first) != NO_OPERATOR {
         telling::two_constants(first);
-    } else if before != 0 && is_constant(first) {
+    } else if before != 0 && is_constant(first) && !files::is_there(before) {
         telling::wrong_operator(before);
+    } else if numbered_at(first) != NO_OPERATOR {
+        telling::two_constants(first);
     } else {
         telling::wrong_operator(first);
     }

@@ -26,7 +26,7 @@ fn asked(word: &[u8]) {
         telling::usage(STDERR_FILENO);
         return;
     }
-    if arguments::same(word, b"help") | arguments::same(word, b"--help") {
+    if is_help(word) {
         telling::usage(STDOUT_FILENO);
         return;
     }
@@ -36,4 +36,8 @@ fn asked(word: &[u8]) {
         return;
     }
     columns::asked(layout);
+}
+
+fn is_help(word: &[u8]) -> bool {
+    arguments::same(word, b"help") | arguments::same(word, b"--help") | arguments::same(word, b"-h")
 }

@@ -203,7 +203,7 @@ fn meaning(code: u32) {
         10 => say(b"run of length 0"),
         11 => say(b"run goes too far past the page's entries"),
         12 => say(b"delta shape: block size or miniblock count not as allowed"),
-        13 => say(b"delta count is not the page's entries"),
+        13 => say(b"delta count is not the entries asked of this page"),
         14 => say(
             b"dictionary: length no multiple of 4, over 65,536 bytes, or values not strictly ascending",
         ),
