@@ -6,7 +6,8 @@ use native.Mathlib.Nat.{mul-assoc, mul-comm, add-mul, zero-mul, add-zero, add-co
 use native.Mathlib.Omega.{arith}
 use lib.Pow.{pow-add, pow-mono, high, low, shr-shr}
 use lib.Bits.{bitAnd}
-use Rattle.rules.specs.Bits.{word, tabulate, joined}
+use Rattle.rules.specs.Bits.{flag, word, tabulate, joined}
+use Rattle.words.specs.Bits.{flag-lt}
 use Rattle.kernels.specs.Lanes.{lanes, mod-low, lanes-ext, lanes-lt, lanes-add, lanes-mul, lanes-mask, lane-low, every}
 use Rattle.kernels.specs.Marks.{pair, pair-lt, every-fits}
 
@@ -104,4 +105,42 @@ module _ (w : ℕ) (t : ℕ → Bool) (y : ℕ) (some : 0 < w) (e : y ≡ lanes 
   eight-tests z f = rw f (join (2 * (2 * w)) 4 (fours t) (omega arith) (fours-lt t 0)) ∙ word-eight t
 
 pub twos-fit : (w : ℕ) → 0 < w → w ≤ 8 → 3 * lanes 2 (2 * (2 * w)) (λ i. 1) < 2 ^ 64
-twos-fit w some h = every-fits 2 (2 * w) 3 (omega arith) (omega arith) (omega (arith, pow-mono {i = 1} {j = 2 * w} (omega arith)))
+twos-fit w some h = every-fits 2 (2 * (2 * w)) (2 * w) 3 (omega arith) (omega arith) (omega (arith, pow-mono {i = 1} {j = 2 * w} (omega arith)))
+
+-- two halves of a word, of which the upper one comes down twice as large
+half-sum : (e o y : ℕ) → e < 128 → o < 64 + 32 → y ≡ e + o * 4294967296 → y + y / 2 ^ 31 ≡ e + o * 2 + o * 4294967296
+half-sum e o y h k f = omega arith
+
+-- y is eight tests, of which every second one lies in a half of the word: those of the upper half come down between those of the lower
+module _ (t : ℕ → Bool) (y : ℕ)
+    (e : y ≡ lanes 2 32 (λ i. flag (t (0 + i))) + lanes 2 32 (λ i. flag (t (2 + i))) * 4 + lanes 2 32 (λ i. flag (t (4 + i))) * 16 + lanes 2 32 (λ i. flag (t (6 + i))) * 64) where
+  abbrev lower : ℕ
+  lower = flag (t 0) + flag (t 2) * 4 + flag (t 4) * 16 + flag (t 6) * 64
+
+  abbrev upper-half : ℕ
+  upper-half = flag (t 1) + flag (t 3) * 4 + flag (t 5) * 16 + flag (t 7) * 64
+
+  lower-lt : lower < 86
+  lower-lt = omega (arith, flag-lt (t 0), flag-lt (t 2), flag-lt (t 4), flag-lt (t 6))
+
+  upper-lt : upper-half < 86
+  upper-lt = omega (arith, flag-lt (t 1), flag-lt (t 3), flag-lt (t 5), flag-lt (t 7))
+
+  together : y + y / 2 ^ 31 ≡ lower + upper-half * 2 + upper-half * 4294967296
+  unfolding lanes joined tabulate
+  together = half-sum lower upper-half y (omega (arith, lower-lt)) (omega (arith, upper-lt)) (omega (arith, e))
+
+  pub halves-fit : y + y / 2 ^ 31 < 2 ^ 64
+  halves-fit = omega (arith, together, lower-lt, upper-lt)
+
+  byte : word 8 t ≡ lower + upper-half * 2
+  unfolding word
+  byte = omega arith
+
+  pub halves-tests : (y + y / 2 ^ 31) % 256 ≡ word 8 t
+  halves-tests = omega (arith, together, lower-lt, upper-lt, byte)
+
+-- the tests of two entries, one in each half
+pub two-le : (t : ℕ → Bool) (r : ℕ) → r ≡ lanes 2 32 (λ i. flag (t i)) → r ≤ 4294967297
+unfolding lanes joined tabulate
+two-le t r e = omega (arith, flag-lt (t 0), flag-lt (t 1))

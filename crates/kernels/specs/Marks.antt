@@ -2,16 +2,16 @@
 use mathlib.Core.Path.{_≡_, sym, ap, ap₂, _∙_}
 use mathlib.Core.Bool.{Bool}
 use Prim.Native.Nat.{ℕ, _+_, _-_, _*_, _/_, _%_, _^_, _≤_, _<_, min}
-use native.Mathlib.Nat.{mul-assoc, mul-comm, add-mul, add-zero, mod-lt, lt-of-lt-of-le}
+use native.Mathlib.Nat.{mul-assoc, mul-comm, add-mul, add-zero, zero-mul, one-mul, div-one, mod-lt, lt-of-lt-of-le}
 use native.Mathlib.Omega.{arith}
 use lib.Pow.{pow-pos, pow-add, pow-mono, split, shr-shr, shl-shr}
 use lib.Bits.{bitAnd, and-block, and-zero-l, and-zero-r, and-le-l, and-shr}
-use Rattle.rules.specs.Bits.{flag}
+use Rattle.rules.specs.Bits.{flag, tabulate, joined}
 use Rattle.words.specs.Bits.{flag-lt}
 use Rattle.compare.specs.Range.{inside}
 use Rattle.compare.specs.Inside.{Place, place, inside-cut}
 use Rattle.compare.specs.Inside.Place.{low as below, high as above, within}
-use Rattle.kernels.specs.Lanes.{lanes, lanes-ext, lanes-lt, lanes-add, lanes-sub, lanes-mul, lanes-and, lanes-mask, every}
+use Rattle.kernels.specs.Lanes.{lanes, lanes-ext, lanes-lt, lanes-add, lanes-sub, lanes-mul, lanes-and, lanes-mask, lane-low, every}
 
 -- does the j-th number of w bits in x lie from lo to hi
 unfoldable pub tested : ℕ → ℕ → ℕ → ℕ → ℕ → Bool
@@ -51,38 +51,44 @@ lane-test w lo hi x hx hl hh = go (place lo hi x)
         let q : ℕ = 2 ^ w + hi - x in
         digits p q 1 1 (x - lo) (hi - x) (omega arith) (omega arith) (omega arith) (omega arith) ∙ rw k
 
--- ---- n entries, w bits each, in lanes of 2 × w bits
+-- ---- n entries, w bits each, in lanes of d bits
+
+-- the w low bits of lane i
+abbrev pub held : ℕ → ℕ → ℕ → ℕ → ℕ
+held d w x i = x / 2 ^ (i * d) % 2 ^ w
+
+pub held-lt : (d w x i : ℕ) → held d w x i < 2 ^ w
+held-lt d w x i = mod-lt (x / 2 ^ (i * d)) (pow-pos w)
 
 -- a lane has room for a number of w + 1 bits
-room : (w : ℕ) {x : ℕ} → 0 < w → x < 2 ^ w * 2 → x < 2 ^ (2 * w)
-room w {x} some h =
-    let more : 2 ^ (w + 1) ≤ 2 ^ (2 * w) = pow-mono {i = w + 1} {j = 2 * w} (omega arith) in
+room : (d w : ℕ) {x : ℕ} → w < d → x < 2 ^ w * 2 → x < 2 ^ d
+room d w {x} wide h =
+    let more : 2 ^ (w + 1) ≤ 2 ^ d = pow-mono {i = w + 1} {j = d} (omega arith) in
     omega (arith, pow-add 2 w 1)
 
-pub every-fits : (n w c : ℕ) → 0 < w → n * (2 * w) ≤ 64 → c < 2 ^ w * 2 → c * lanes n (2 * w) (λ i. 1) < 2 ^ 64
-every-fits n w c some fits h =
-    rw (every n (2 * w) c) (lt-of-lt-of-le (lanes-lt n (2 * w) (λ i. c) (λ i l. room w some h)) (pow-mono {i = n * (2 * w)} {j = 64} fits))
+pub every-fits : (n d w c : ℕ) → w < d → n * d ≤ 64 → c < 2 ^ w * 2 → c * lanes n d (λ i. 1) < 2 ^ 64
+every-fits n d w c wide fits h =
+    rw (every n d c) (lt-of-lt-of-le (lanes-lt n d (λ i. c) (λ i l. room d w wide h)) (pow-mono {i = n * d} {j = 64} fits))
 
-module _ (n w lo hi : ℕ) (some : 0 < w) (hl : lo ≤ 2 ^ w) (hh : hi < 2 ^ w) where
+module _ (n d w lo hi : ℕ) (wide : w < d) (hl : lo ≤ 2 ^ w) (hh : hi < 2 ^ w) where
   module _ (f : ℕ → ℕ) (hf : (i : ℕ) → i < n → f i < 2 ^ w) where
     -- nothing is borrowed
-    pub no-borrow : lanes n (2 * w) f ≤ (2 ^ w + hi) * lanes n (2 * w) (λ i. 1)
+    no-borrow : lanes n d f ≤ (2 ^ w + hi) * lanes n d (λ i. 1)
     no-borrow =
-        let e : (2 ^ w + hi) * lanes n (2 * w) (λ i. 1) ≡ lanes n (2 * w) (λ i. 2 ^ w + hi) = every n (2 * w) (2 ^ w + hi) in
-        omega (arith, lanes-sub n (2 * w) (λ i. 2 ^ w + hi) f (λ i l. omega (arith, hf i l)))
+        let e : (2 ^ w + hi) * lanes n d (λ i. 1) ≡ lanes n d (λ i. 2 ^ w + hi) = every n d (2 ^ w + hi) in
+        omega (arith, lanes-sub n d (λ i. 2 ^ w + hi) f (λ i l. omega (arith, hf i l)))
 
     -- the sum fits
-    pub no-carry : lanes n (2 * w) f + (2 ^ w - lo) * lanes n (2 * w) (λ i. 1) < 2 ^ (n * (2 * w))
+    no-carry : lanes n d f + (2 ^ w - lo) * lanes n d (λ i. 1) < 2 ^ (n * d)
     no-carry =
-        let e : (2 ^ w - lo) * lanes n (2 * w) (λ i. 1) ≡ lanes n (2 * w) (λ i. 2 ^ w - lo) = every n (2 * w) (2 ^ w - lo) in
-        rw (e, lanes-add n (2 * w) f (λ i. 2 ^ w - lo)) (lanes-lt n (2 * w) (λ i. f i + (2 ^ w - lo)) (λ i l. room w some (omega (arith, hf i l))))
+        let e : (2 ^ w - lo) * lanes n d (λ i. 1) ≡ lanes n d (λ i. 2 ^ w - lo) = every n d (2 ^ w - lo) in
+        rw (e, lanes-add n d f (λ i. 2 ^ w - lo)) (lanes-lt n d (λ i. f i + (2 ^ w - lo)) (λ i l. room d w wide (omega (arith, hf i l))))
 
     -- both ends' tests of all lanes at once
-    pub lanes-test :
-        bitAnd (bitAnd (lanes n (2 * w) f + (2 ^ w - lo) * lanes n (2 * w) (λ i. 1)) ((2 ^ w + hi) * lanes n (2 * w) (λ i. 1) - lanes n (2 * w) f) / 2 ^ w) (lanes n (2 * w) (λ i. 1))
-        ≡ lanes n (2 * w) (λ i. flag (inside lo hi (f i)))
+    lanes-test :
+        bitAnd (bitAnd (lanes n d f + (2 ^ w - lo) * lanes n d (λ i. 1)) ((2 ^ w + hi) * lanes n d (λ i. 1) - lanes n d f) / 2 ^ w) (lanes n d (λ i. 1))
+        ≡ lanes n d (λ i. flag (inside lo hi (f i)))
     lanes-test =
-        let d : ℕ = 2 * w in
         let ones : ℕ = lanes n d (λ i. 1) in
         let p : ℕ → ℕ = λ i. f i + (2 ^ w - lo) in
         let q : ℕ → ℕ = λ i. 2 ^ w + hi - f i in
@@ -90,9 +96,9 @@ module _ (n w lo hi : ℕ) (some : 0 < w) (hl : lo ≤ 2 ^ w) (hh : hi < 2 ^ w) 
         let le : (2 ^ w + hi) * ones ≡ lanes n d (λ i. 2 ^ w + hi) = every n d (2 ^ w + hi) in
         let sum : lanes n d f + (2 ^ w - lo) * ones ≡ lanes n d p = ap (λ (x : ℕ). lanes n d f + x) ge ∙ lanes-add n d f (λ i. 2 ^ w - lo) in
         let rest : (2 ^ w + hi) * ones - lanes n d f ≡ lanes n d q = omega (arith, lanes-sub n d (λ i. 2 ^ w + hi) f (λ i l. omega (arith, hf i l))) in
-        let hp : (i : ℕ) → i < n → p i < 2 ^ d = λ i l. room w some (omega (arith, hf i l)) in
-        let hq : (i : ℕ) → i < n → q i < 2 ^ d = λ i l. room w some (omega (arith, hf i l)) in
-        let ht : (i : ℕ) → i < n → 2 ^ w < 2 ^ d = λ i l. room w some (omega (arith, pow-pos w)) in
+        let hp : (i : ℕ) → i < n → p i < 2 ^ d = λ i l. room d w wide (omega (arith, hf i l)) in
+        let hq : (i : ℕ) → i < n → q i < 2 ^ d = λ i l. room d w wide (omega (arith, hf i l)) in
+        let ht : (i : ℕ) → i < n → 2 ^ w < 2 ^ d = λ i l. room d w wide (omega (arith, pow-pos w)) in
         let hpq : (i : ℕ) → i < n → bitAnd (p i) (q i) < 2 ^ d = λ i l. omega (arith, and-le-l (p i) (q i), hp i l) in
         let both : bitAnd (lanes n d p) (lanes n d q) ≡ lanes n d (λ i. bitAnd (p i) (q i)) = lanes-and n d p q hp hq in
         let marked : bitAnd (lanes n d (λ i. bitAnd (p i) (q i))) (ones * 2 ^ w) ≡ lanes n d (λ i. flag (inside lo hi (f i))) * 2 ^ w =
@@ -109,54 +115,62 @@ module _ (n w lo hi : ℕ) (some : 0 < w) (hl : lo ≤ 2 ^ w) (hh : hi < 2 ^ w) 
         ∙ ap (λ (x : ℕ). x / 2 ^ w) marked
         ∙ shl-shr (lanes n d (λ i. flag (inside lo hi (f i)))) w
 
--- ---- the entries of a word, even and odd ones apart
-
--- every second number of w bits in x
-abbrev evensOf : ℕ → ℕ → ℕ → ℕ
-evensOf w x i = x / 2 ^ (i * (2 * w)) % 2 ^ w
-
-module _ (n w lo hi : ℕ) (some : 0 < w) where
+-- a word that holds nothing but its entries, each in its lane
+module _ (n d w lo hi a : ℕ) (wide : w < d) (e : a ≡ lanes n d (held d w a)) where
   low-fits : min lo (2 ^ w) ≤ 2 ^ w
   low-fits = omega arith
 
   high-fits : min hi (2 ^ w - 1) < 2 ^ w
   high-fits = omega (arith, pow-pos w)
 
-  evens : (x : ℕ) → bitAnd x ((2 ^ w - 1) * lanes n (2 * w) (λ i. 1)) ≡ lanes n (2 * w) (evensOf w x)
+  pub sum-fits : n * d ≤ 64 → a + (2 ^ w - min lo (2 ^ w)) * lanes n d (λ i. 1) < 2 ^ 64
+  sum-fits fits =
+      let l = lt-of-lt-of-le (no-carry n d w (min lo (2 ^ w)) (min hi (2 ^ w - 1)) wide low-fits high-fits (held d w a) (λ i l. held-lt d w a i)) (pow-mono {i = n * d} {j = 64} fits) in
+      omega (arith, e, l)
+
+  pub rest-fits : a ≤ (2 ^ w + min hi (2 ^ w - 1)) * lanes n d (λ i. 1)
+  rest-fits =
+      omega (arith, e, no-borrow n d w (min lo (2 ^ w)) (min hi (2 ^ w - 1)) wide low-fits high-fits (held d w a) (λ i l. held-lt d w a i))
+
+  pub all-tested :
+      bitAnd (bitAnd (a + (2 ^ w - min lo (2 ^ w)) * lanes n d (λ i. 1)) ((2 ^ w + min hi (2 ^ w - 1)) * lanes n d (λ i. 1) - a) / 2 ^ w) (lanes n d (λ i. 1))
+      ≡ lanes n d (λ i. flag (inside lo hi (held d w a i)))
+  all-tested =
+      ap (λ (x : ℕ). bitAnd (bitAnd (x + (2 ^ w - min lo (2 ^ w)) * lanes n d (λ i. 1)) ((2 ^ w + min hi (2 ^ w - 1)) * lanes n d (λ i. 1) - x) / 2 ^ w) (lanes n d (λ i. 1))) e
+      ∙ lanes-test n d w (min lo (2 ^ w)) (min hi (2 ^ w - 1)) wide low-fits high-fits (held d w a) (λ i l. held-lt d w a i)
+      ∙ lanes-ext n d (λ i l. ap flag (inside-cut w lo hi (held d w a i) (held-lt d w a i)))
+
+-- lanes of entries hold them
+module _ (n d w : ℕ) (f : ℕ → ℕ) (a : ℕ) (wide : w < d) (small : (i : ℕ) → i < n → f i < 2 ^ w) (e : a ≡ lanes n d f) where
+  pub holds : (i : ℕ) → i < n → held d w a i ≡ f i
+  holds i l = ap (λ (x : ℕ). held d w x i) e ∙ lane-low n d w f i (omega arith) l small
+
+  pub holds-all : a ≡ lanes n d (held d w a)
+  holds-all = e ∙ lanes-ext n d (λ i l. sym (holds i l))
+
+  pub tests-all : (lo hi : ℕ) → lanes n d (λ i. flag (inside lo hi (held d w a i))) ≡ lanes n d (λ i. flag (inside lo hi (f i)))
+  tests-all lo hi = lanes-ext n d (λ i l. ap (λ (x : ℕ). flag (inside lo hi x)) (holds i l))
+
+-- the first two numbers of w bits in x, each in a half of a word
+pub halves : (w x : ℕ) → x % 2 ^ w + x / 2 ^ w % 2 ^ w * 4294967296 ≡ lanes 2 32 (held w w x)
+unfolding lanes joined tabulate
+halves w x = rw (zero-mul w, one-mul w, div-one x) (omega arith)
+
+-- ---- the entries of a word, even and odd ones apart
+
+module _ (n w : ℕ) (some : 0 < w) where
+  -- every second number of w bits in x, in lanes of twice their width
+  pub evens : (x : ℕ) → bitAnd x ((2 ^ w - 1) * lanes n (2 * w) (λ i. 1)) ≡ lanes n (2 * w) (held (2 * w) w x)
   evens x = ap (bitAnd x) (every n (2 * w) (2 ^ w - 1)) ∙ lanes-mask n (2 * w) w x (omega arith)
 
-  evens-lt : (x i : ℕ) → i < n → evensOf w x i < 2 ^ w
-  evens-lt x i l = mod-lt (x / 2 ^ (i * (2 * w))) (pow-pos w)
-
-  -- what the test of the even ones asks, and gives
-  pub evens-ready : (x : ℕ) → n * (2 * w) ≤ 64 → w < 64
-      → (w < 64)
-      × (bitAnd x ((2 ^ w - 1) * lanes n (2 * w) (λ i. 1)) + (2 ^ w - min lo (2 ^ w)) * lanes n (2 * w) (λ i. 1) < 2 ^ 64)
-      × (bitAnd x ((2 ^ w - 1) * lanes n (2 * w) (λ i. 1)) ≤ (2 ^ w + min hi (2 ^ w - 1)) * lanes n (2 * w) (λ i. 1))
-  evens-ready x fits narrow =
-      rw (evens x) (
-        narrow,
-        lt-of-lt-of-le (no-carry n w (min lo (2 ^ w)) (min hi (2 ^ w - 1)) some low-fits high-fits (evensOf w x) (evens-lt x)) (pow-mono {i = n * (2 * w)} {j = 64} fits),
-        no-borrow n w (min lo (2 ^ w)) (min hi (2 ^ w - 1)) some low-fits high-fits (evensOf w x) (evens-lt x),
-      )
-
-  pub evens-test : (x : ℕ)
-      → bitAnd (bitAnd (bitAnd x ((2 ^ w - 1) * lanes n (2 * w) (λ i. 1)) + (2 ^ w - min lo (2 ^ w)) * lanes n (2 * w) (λ i. 1))
-      ((2 ^ w + min hi (2 ^ w - 1)) * lanes n (2 * w) (λ i. 1) - bitAnd x ((2 ^ w - 1) * lanes n (2 * w) (λ i. 1))) / 2 ^ w) (lanes n (2 * w) (λ i. 1))
-      ≡ lanes n (2 * w) (λ i. flag (inside lo hi (evensOf w x i)))
-  evens-test x =
-      rw (evens x)
-      (lanes-test n w (min lo (2 ^ w)) (min hi (2 ^ w - 1)) some low-fits high-fits (evensOf w x) (evens-lt x)
-      ∙ lanes-ext n (2 * w) (λ i l. ap flag (inside-cut w lo hi (evensOf w x i) (evens-lt x i l))))
-
   -- even and odd ones together
-  pub pairs : (x : ℕ)
-      → lanes n (2 * w) (λ i. flag (inside lo hi (evensOf w x i))) + lanes n (2 * w) (λ i. flag (inside lo hi (evensOf w (x / 2 ^ w) i))) * 2
+  pub pairs : (lo hi x : ℕ)
+      → lanes n (2 * w) (λ i. flag (inside lo hi (held (2 * w) w x i))) + lanes n (2 * w) (λ i. flag (inside lo hi (held (2 * w) w (x / 2 ^ w) i))) * 2
       ≡ lanes n (2 * w) (pair (tested lo hi w x))
   unfolding pair tested
-  pairs x =
-      let f : ℕ → ℕ = λ i. flag (inside lo hi (evensOf w x i)) in
-      let g : ℕ → ℕ = λ i. flag (inside lo hi (evensOf w (x / 2 ^ w) i)) in
+  pairs lo hi x =
+      let f : ℕ → ℕ = λ i. flag (inside lo hi (held (2 * w) w x i)) in
+      let g : ℕ → ℕ = λ i. flag (inside lo hi (held (2 * w) w (x / 2 ^ w) i)) in
       let even : (i : ℕ) → i * (2 * w) ≡ 2 * i * w = λ i. rw (← mul-assoc, mul-comm i) in
       let odd : (i : ℕ) → w + i * (2 * w) ≡ (2 * i + 1) * w = λ i. omega (arith, add-mul (2 * i) 1 w, even i) in
       let here : (i : ℕ) → f i ≡ flag (inside lo hi (x / 2 ^ (2 * i * w) % 2 ^ w)) = λ i. ap (λ (k : ℕ). flag (inside lo hi (x / 2 ^ k % 2 ^ w))) (even i) in

@@ -3,4 +3,5 @@ pub mod each;
 pub mod eights;
 pub mod fours;
 pub mod marks;
+pub mod twos;
 pub mod wholes;

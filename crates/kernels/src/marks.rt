@@ -1,11 +1,12 @@
-// Several entries of one word tested at once: every second one lies in a lane of twice its width, where a sum has room for its carry.
+// Several entries of one word tested at once, each in a lane that is wider than it, where a sum has room for its carry.
 ghost use mathlib.Core.Path.{_≡_};
-ghost use Prim.Native.Nat.{_+_, _-_, _*_, _/_, _^_, _≤_, _<_, min};
-ghost use lib.Bits.{bitAnd};
+ghost use Prim.Native.Nat.{_*_, _^_, _≤_, _<_, min};
+ghost use Rattle.rules.specs.Bits.{flag};
+ghost use Rattle.compare.specs.Range.{inside};
 ghost use Rattle.kernels.specs.Lanes.{lanes};
-ghost use Rattle.kernels.specs.Marks.{tested, pair};
+ghost use Rattle.kernels.specs.Marks.{tested, pair, held};
 
-fn pow(w: usize) -> u64
+pub fn pow(w: usize) -> u64
     requires { ⌜ w < 64 ⌝ }
     ensures { λ r. ⌜ r ≡ 2 ^ w ⌝ }
 {
@@ -34,22 +35,24 @@ pub fn ones_four(d: usize) -> u64
     ones_two(d) * ones_two(2 * d)
 }
 
-// In each lane bit w of a + ge says whether the entry is low or more, and bit w of le - a whether it is high or less.
-fn both(a: u64, ge: u64, le: u64, ones: u64, w: usize) -> u64
-    requires { ⌜ (w < 64) × (a + ge < 2 ^ 64) × (a ≤ le) ⌝ }
-    ensures { λ r. ⌜ r ≡ bitAnd (bitAnd (a + ge) (le - a) / 2 ^ w) ones ⌝ }
+// The tests of n entries of w bits, each in a lane of d bits of its own: bit w of a + ge says whether an entry is low or more, and bit w of le - a whether it
+// is high or less. Only the contract speaks of n and d, and so serves all kernels of lanes.
+pub fn tests(a: u64, n: usize, d: usize, ones: u64, w: usize, low: u64, high: u64) -> u64
+    requires { ⌜ (w < 32) × (w < d) × (n * d ≤ 64) × (ones ≡ lanes n d (λ i. 1)) × (a ≡ lanes n d (held d w a)) ⌝ }
+    ensures { λ r. ⌜ r ≡ lanes n d (λ i. flag (inside low high (held d w a i))) ⌝ }
 {
+    let p = pow(w);
+    let ge = (p - least(low, p)) * ones;
+    let le = (p + least(high, p - 1)) * ones;
     (((a + ge) & (le - a)) >> w) & ones
 }
 
-// The tests of 2 * n entries of w bits: those of entries 2 * i and 2 * i + 1 in lane i. Only the contract speaks of n, and so serves both kernels.
+// The tests of 2 * n entries of w bits, end to end in a word: those of entries 2 * i and 2 * i + 1 in lane i.
 pub fn marks(x: u64, n: usize, ones: u64, w: usize, low: u64, high: u64) -> u64
     requires { ⌜ (0 < w) × (w ≤ 16) × (n * (2 * w) ≤ 64) × (ones ≡ lanes n (2 * w) (λ i. 1)) ⌝ }
     ensures { λ r. ⌜ r ≡ lanes n (2 * w) (pair (tested low high w x)) ⌝ }
 {
-    let p = pow(w);
-    let even = (p - 1) * ones;
-    let ge = (p - least(low, p)) * ones;
-    let le = (p + least(high, p - 1)) * ones;
-    both(x & even, ge, le, ones, w) + both((x >> w) & even, ge, le, ones, w) * 2
+    let even = (pow(w) - 1) * ones;
+    let d = 2 * w;
+    tests(x & even, n, d, ones, w, low, high) + tests((x >> w) & even, n, d, ones, w, low, high) * 2
 }

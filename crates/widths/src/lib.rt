@@ -7,6 +7,7 @@ ghost use Rattle.kernels.specs.Selected.{selected, ranging};
 use kernels::each::select_each;
 use kernels::eights::select_eights;
 use kernels::fours::select_fours;
+use kernels::twos::select_twos;
 use kernels::wholes::select_wholes;
 
 // m groups of eight entries to m bytes of the bitmap. `flip` is 255 where the entries outside are wanted.
@@ -40,18 +41,18 @@ pub fn select_groups(
         14 => select_fours(page, bitmap, m, 14, low, span, flip),
         15 => select_fours(page, bitmap, m, 15, low, span, flip),
         16 => select_fours(page, bitmap, m, 16, low, span, flip),
-        17 => select_each(page, bitmap, m, 17, low, span, flip),
-        18 => select_each(page, bitmap, m, 18, low, span, flip),
-        19 => select_each(page, bitmap, m, 19, low, span, flip),
-        20 => select_each(page, bitmap, m, 20, low, span, flip),
-        21 => select_each(page, bitmap, m, 21, low, span, flip),
-        22 => select_each(page, bitmap, m, 22, low, span, flip),
-        23 => select_each(page, bitmap, m, 23, low, span, flip),
-        24 => select_each(page, bitmap, m, 24, low, span, flip),
-        25 => select_each(page, bitmap, m, 25, low, span, flip),
-        26 => select_each(page, bitmap, m, 26, low, span, flip),
-        27 => select_each(page, bitmap, m, 27, low, span, flip),
-        28 => select_each(page, bitmap, m, 28, low, span, flip),
+        17 => select_twos(page, bitmap, m, 17, low, span, flip),
+        18 => select_twos(page, bitmap, m, 18, low, span, flip),
+        19 => select_twos(page, bitmap, m, 19, low, span, flip),
+        20 => select_twos(page, bitmap, m, 20, low, span, flip),
+        21 => select_twos(page, bitmap, m, 21, low, span, flip),
+        22 => select_twos(page, bitmap, m, 22, low, span, flip),
+        23 => select_twos(page, bitmap, m, 23, low, span, flip),
+        24 => select_twos(page, bitmap, m, 24, low, span, flip),
+        25 => select_twos(page, bitmap, m, 25, low, span, flip),
+        26 => select_twos(page, bitmap, m, 26, low, span, flip),
+        27 => select_twos(page, bitmap, m, 27, low, span, flip),
+        28 => select_twos(page, bitmap, m, 28, low, span, flip),
         29 => select_each(page, bitmap, m, 29, low, span, flip),
         30 => select_each(page, bitmap, m, 30, low, span, flip),
         31 => select_each(page, bitmap, m, 31, low, span, flip),

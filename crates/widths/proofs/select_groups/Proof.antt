@@ -55,56 +55,56 @@ select-fours-requires-7 c κs = omega (arith, rw (c .before .match .keys16) at (
 select-fours-requires-8 : tie.Need-select-fours-requires-8
 select-fours-requires-8 c κs = omega (arith, rw (c .before .match .keys17) at (c .before .before .before .before .pre))
 
+select-twos-requires : tie.Need-select-twos-requires
+select-twos-requires c κs = omega (arith, rw (c .before .match .keys18) at (c .before .before .before .before .pre))
+
+select-twos-requires-2 : tie.Need-select-twos-requires-2
+select-twos-requires-2 c κs = omega (arith, rw (c .before .match .keys19) at (c .before .before .before .before .pre))
+
+select-twos-requires-3 : tie.Need-select-twos-requires-3
+select-twos-requires-3 c κs = omega (arith, rw (c .before .match .keys20) at (c .before .before .before .before .pre))
+
+select-twos-requires-4 : tie.Need-select-twos-requires-4
+select-twos-requires-4 c κs = omega (arith, rw (c .before .match .keys21) at (c .before .before .before .before .pre))
+
+select-twos-requires-5 : tie.Need-select-twos-requires-5
+select-twos-requires-5 c κs = omega (arith, rw (c .before .match .keys22) at (c .before .before .before .before .pre))
+
+select-twos-requires-6 : tie.Need-select-twos-requires-6
+select-twos-requires-6 c κs = omega (arith, rw (c .before .match .keys23) at (c .before .before .before .before .pre))
+
+select-twos-requires-7 : tie.Need-select-twos-requires-7
+select-twos-requires-7 c κs = omega (arith, rw (c .before .match .keys24) at (c .before .before .before .before .pre))
+
+select-twos-requires-8 : tie.Need-select-twos-requires-8
+select-twos-requires-8 c κs = omega (arith, rw (c .before .match .keys25) at (c .before .before .before .before .pre))
+
+select-twos-requires-9 : tie.Need-select-twos-requires-9
+select-twos-requires-9 c κs = omega (arith, rw (c .before .match .keys26) at (c .before .before .before .before .pre))
+
+select-twos-requires-10 : tie.Need-select-twos-requires-10
+select-twos-requires-10 c κs = omega (arith, rw (c .before .match .keys27) at (c .before .before .before .before .pre))
+
+select-twos-requires-11 : tie.Need-select-twos-requires-11
+select-twos-requires-11 c κs = omega (arith, rw (c .before .match .keys28) at (c .before .before .before .before .pre))
+
+select-twos-requires-12 : tie.Need-select-twos-requires-12
+select-twos-requires-12 c κs = omega (arith, rw (c .before .match .keys29) at (c .before .before .before .before .pre))
+
 select-each-requires-2 : tie.Need-select-each-requires-2
-select-each-requires-2 c κs = omega (arith, rw (c .before .match .keys18) at (c .before .before .before .before .pre))
+select-each-requires-2 c κs = omega (arith, rw (c .before .match .keys30) at (c .before .before .before .before .pre))
 
 select-each-requires-3 : tie.Need-select-each-requires-3
-select-each-requires-3 c κs = omega (arith, rw (c .before .match .keys19) at (c .before .before .before .before .pre))
+select-each-requires-3 c κs = omega (arith, rw (c .before .match .keys31) at (c .before .before .before .before .pre))
 
 select-each-requires-4 : tie.Need-select-each-requires-4
-select-each-requires-4 c κs = omega (arith, rw (c .before .match .keys20) at (c .before .before .before .before .pre))
-
-select-each-requires-5 : tie.Need-select-each-requires-5
-select-each-requires-5 c κs = omega (arith, rw (c .before .match .keys21) at (c .before .before .before .before .pre))
-
-select-each-requires-6 : tie.Need-select-each-requires-6
-select-each-requires-6 c κs = omega (arith, rw (c .before .match .keys22) at (c .before .before .before .before .pre))
-
-select-each-requires-7 : tie.Need-select-each-requires-7
-select-each-requires-7 c κs = omega (arith, rw (c .before .match .keys23) at (c .before .before .before .before .pre))
-
-select-each-requires-8 : tie.Need-select-each-requires-8
-select-each-requires-8 c κs = omega (arith, rw (c .before .match .keys24) at (c .before .before .before .before .pre))
-
-select-each-requires-9 : tie.Need-select-each-requires-9
-select-each-requires-9 c κs = omega (arith, rw (c .before .match .keys25) at (c .before .before .before .before .pre))
-
-select-each-requires-10 : tie.Need-select-each-requires-10
-select-each-requires-10 c κs = omega (arith, rw (c .before .match .keys26) at (c .before .before .before .before .pre))
-
-select-each-requires-11 : tie.Need-select-each-requires-11
-select-each-requires-11 c κs = omega (arith, rw (c .before .match .keys27) at (c .before .before .before .before .pre))
-
-select-each-requires-12 : tie.Need-select-each-requires-12
-select-each-requires-12 c κs = omega (arith, rw (c .before .match .keys28) at (c .before .before .before .before .pre))
-
-select-each-requires-13 : tie.Need-select-each-requires-13
-select-each-requires-13 c κs = omega (arith, rw (c .before .match .keys29) at (c .before .before .before .before .pre))
-
-select-each-requires-14 : tie.Need-select-each-requires-14
-select-each-requires-14 c κs = omega (arith, rw (c .before .match .keys30) at (c .before .before .before .before .pre))
-
-select-each-requires-15 : tie.Need-select-each-requires-15
-select-each-requires-15 c κs = omega (arith, rw (c .before .match .keys31) at (c .before .before .before .before .pre))
-
-select-each-requires-16 : tie.Need-select-each-requires-16
-select-each-requires-16 c κs = omega (arith, rw (c .before .match .keys32) at (c .before .before .before .before .pre))
+select-each-requires-4 c κs = omega (arith, rw (c .before .match .keys32) at (c .before .before .before .before .pre))
 
 select-wholes-requires : tie.Need-select-wholes-requires
 select-wholes-requires c κs = omega (arith, rw (c .before .match .keys33) at (c .before .before .before .before .pre))
 
-select-each-requires-17 : tie.Need-select-each-requires-17
-select-each-requires-17 c κs = search needs
+select-each-requires-5 : tie.Need-select-each-requires-5
+select-each-requires-5 c κs = search needs
 
 same-length : tie.Need-same-length
 same-length c = omega arith
@@ -212,91 +212,91 @@ same-length-18 : tie.Need-same-length-18
 same-length-18 c = omega arith
 
 returns-18 : tie.Need-returns-18
-returns-18 c = rw (c .before .before .before .before .match .keys18) (c .before .before .select-each2 .ensures)
+returns-18 c = rw (c .before .before .before .before .match .keys18) (c .before .before .select-twos .ensures)
 
 same-length-19 : tie.Need-same-length-19
 same-length-19 c = omega arith
 
 returns-19 : tie.Need-returns-19
-returns-19 c = rw (c .before .before .before .before .match .keys19) (c .before .before .select-each3 .ensures)
+returns-19 c = rw (c .before .before .before .before .match .keys19) (c .before .before .select-twos2 .ensures)
 
 same-length-20 : tie.Need-same-length-20
 same-length-20 c = omega arith
 
 returns-20 : tie.Need-returns-20
-returns-20 c = rw (c .before .before .before .before .match .keys20) (c .before .before .select-each4 .ensures)
+returns-20 c = rw (c .before .before .before .before .match .keys20) (c .before .before .select-twos3 .ensures)
 
 same-length-21 : tie.Need-same-length-21
 same-length-21 c = omega arith
 
 returns-21 : tie.Need-returns-21
-returns-21 c = rw (c .before .before .before .before .match .keys21) (c .before .before .select-each5 .ensures)
+returns-21 c = rw (c .before .before .before .before .match .keys21) (c .before .before .select-twos4 .ensures)
 
 same-length-22 : tie.Need-same-length-22
 same-length-22 c = omega arith
 
 returns-22 : tie.Need-returns-22
-returns-22 c = rw (c .before .before .before .before .match .keys22) (c .before .before .select-each6 .ensures)
+returns-22 c = rw (c .before .before .before .before .match .keys22) (c .before .before .select-twos5 .ensures)
 
 same-length-23 : tie.Need-same-length-23
 same-length-23 c = omega arith
 
 returns-23 : tie.Need-returns-23
-returns-23 c = rw (c .before .before .before .before .match .keys23) (c .before .before .select-each7 .ensures)
+returns-23 c = rw (c .before .before .before .before .match .keys23) (c .before .before .select-twos6 .ensures)
 
 same-length-24 : tie.Need-same-length-24
 same-length-24 c = omega arith
 
 returns-24 : tie.Need-returns-24
-returns-24 c = rw (c .before .before .before .before .match .keys24) (c .before .before .select-each8 .ensures)
+returns-24 c = rw (c .before .before .before .before .match .keys24) (c .before .before .select-twos7 .ensures)
 
 same-length-25 : tie.Need-same-length-25
 same-length-25 c = omega arith
 
 returns-25 : tie.Need-returns-25
-returns-25 c = rw (c .before .before .before .before .match .keys25) (c .before .before .select-each9 .ensures)
+returns-25 c = rw (c .before .before .before .before .match .keys25) (c .before .before .select-twos8 .ensures)
 
 same-length-26 : tie.Need-same-length-26
 same-length-26 c = omega arith
 
 returns-26 : tie.Need-returns-26
-returns-26 c = rw (c .before .before .before .before .match .keys26) (c .before .before .select-each10 .ensures)
+returns-26 c = rw (c .before .before .before .before .match .keys26) (c .before .before .select-twos9 .ensures)
 
 same-length-27 : tie.Need-same-length-27
 same-length-27 c = omega arith
 
 returns-27 : tie.Need-returns-27
-returns-27 c = rw (c .before .before .before .before .match .keys27) (c .before .before .select-each11 .ensures)
+returns-27 c = rw (c .before .before .before .before .match .keys27) (c .before .before .select-twos10 .ensures)
 
 same-length-28 : tie.Need-same-length-28
 same-length-28 c = omega arith
 
 returns-28 : tie.Need-returns-28
-returns-28 c = rw (c .before .before .before .before .match .keys28) (c .before .before .select-each12 .ensures)
+returns-28 c = rw (c .before .before .before .before .match .keys28) (c .before .before .select-twos11 .ensures)
 
 same-length-29 : tie.Need-same-length-29
 same-length-29 c = omega arith
 
 returns-29 : tie.Need-returns-29
-returns-29 c = rw (c .before .before .before .before .match .keys29) (c .before .before .select-each13 .ensures)
+returns-29 c = rw (c .before .before .before .before .match .keys29) (c .before .before .select-twos12 .ensures)
 
 same-length-30 : tie.Need-same-length-30
 same-length-30 c = omega arith
 
 returns-30 : tie.Need-returns-30
-returns-30 c = rw (c .before .before .before .before .match .keys30) (c .before .before .select-each14 .ensures)
+returns-30 c = rw (c .before .before .before .before .match .keys30) (c .before .before .select-each2 .ensures)
 
 same-length-31 : tie.Need-same-length-31
 same-length-31 c = omega arith
 
 returns-31 : tie.Need-returns-31
-returns-31 c = rw (c .before .before .before .before .match .keys31) (c .before .before .select-each15 .ensures)
+returns-31 c = rw (c .before .before .before .before .match .keys31) (c .before .before .select-each3 .ensures)
 
 same-length-32 : tie.Need-same-length-32
 same-length-32 c = omega arith
 
 returns-32 : tie.Need-returns-32
-returns-32 c = rw (c .before .before .before .before .match .keys32) (c .before .before .select-each16 .ensures)
+returns-32 c = rw (c .before .before .before .before .match .keys32) (c .before .before .select-each4 .ensures)
 
 same-length-33 : tie.Need-same-length-33
 same-length-33 c = omega arith
@@ -308,7 +308,7 @@ same-length-34 : tie.Need-same-length-34
 same-length-34 c = omega arith
 
 returns-34 : tie.Need-returns-34
-returns-34 c = c .before .before .select-each17 .ensures
+returns-34 c = c .before .before .select-each5 .ensures
 
 pub select-groups-spec : {M : Type 1} → statement M
 select-groups-spec =
@@ -331,23 +331,23 @@ select-groups-spec =
     select-fours-requires-6
     select-fours-requires-7
     select-fours-requires-8
+    select-twos-requires
+    select-twos-requires-2
+    select-twos-requires-3
+    select-twos-requires-4
+    select-twos-requires-5
+    select-twos-requires-6
+    select-twos-requires-7
+    select-twos-requires-8
+    select-twos-requires-9
+    select-twos-requires-10
+    select-twos-requires-11
+    select-twos-requires-12
     select-each-requires-2
     select-each-requires-3
     select-each-requires-4
-    select-each-requires-5
-    select-each-requires-6
-    select-each-requires-7
-    select-each-requires-8
-    select-each-requires-9
-    select-each-requires-10
-    select-each-requires-11
-    select-each-requires-12
-    select-each-requires-13
-    select-each-requires-14
-    select-each-requires-15
-    select-each-requires-16
     select-wholes-requires
-    select-each-requires-17
+    select-each-requires-5
     same-length
     returns
     same-length-2

@@ -1,0 +1,68 @@
+-- `kernels::twos::two` meets its contract: the two entries of a window, each in a half of a word.
+use mathlib.Core.Path.{_≡_, ap, _∙_}
+use Prim.Native.Nat.{ℕ, _+_, _*_, _/_, _%_, _^_}
+use native.Mathlib.Omega.{arith}
+use borrow.Author.Needs.{needs}
+use Rattle.rules.specs.Bits.{flag, field}
+use Rattle.rules.specs.Bits.Order.{lowFirst}
+use Rattle.compare.specs.Range.{inside}
+use Rattle.words.specs.Joined.{Small}
+use Rattle.kernels.specs.Lanes.{lanes, lanes-ext}
+use Rattle.kernels.specs.Marks.{held, held-lt, holds-all, tests-all}
+use Rattle.kernels.specs.Windows.{window-entry}
+use Rattle.kernels.specs.Folded.{two-le}
+use Rattle.kernels.proofs.twos.two.Statement.{statement}
+use Rattle.kernels.proofs.twos.two.Tie as tie
+
+add-load8 : tie.Need-add-load8
+add-load8 c = search needs
+
+load8-requires : tie.Need-load8-requires
+load8-requires c κs = search needs
+
+shr-x : tie.Need-shr-x
+shr-x c = search needs
+
+apart-requires : tie.Need-apart-requires
+apart-requires c κs = search needs
+
+ones-two-requires : tie.Need-ones-two-requires
+ones-two-requires c κs = search needs
+
+tests-requires : tie.Need-tests-requires
+tests-requires c κs =
+    let l = c .before .before in
+    let a = l .before .before .args in
+    let x = l .load8 .result / 2 ^ (a .b % 8) in
+    (omega arith, omega arith, omega arith, c .ones-two .ensures, holds-all 2 32 (a .w) (held (a .w) (a .w) x) _ (omega arith) (λ i m. held-lt (a .w) (a .w) x i) (c .before .apart .ensures))
+
+told : (c : tie.After-tests) → let a = c .before .before .before .before .before .args in
+    c .tests .result ≡ lanes 2 32 (λ i. flag (inside (a .low) (a .high) (field lowFirst (a .page .now) (8 * a .at + a .b + i * a .w) (a .w))))
+told c =
+    let l = c .before .before .before in
+    let s = l .before in
+    let a = s .before .args in
+    let o = a .b % 8 in
+    let x = l .load8 .result / 2 ^ o in
+    let all : Small 8 (a .page .now) = λ k. s .shared-slice-known .given k .fits in
+    c .tests .ensures
+    ∙ tests-all 2 32 (a .w) (held (a .w) (a .w) x) _ (omega arith) (λ i m. held-lt (a .w) (a .w) x i) (c .before .before .apart .ensures) (a .low) (a .high)
+    ∙ lanes-ext 2 32 (λ i m. ap (λ (v : ℕ). flag (inside (a .low) (a .high) v))
+    (window-entry (a .page .now) 2 (a .at + a .b / 8) o (a .w) x all (omega arith) (ap (λ (v : ℕ). v / 2 ^ o) (l .load8 .ensures)) (omega arith) i m))
+
+returns : tie.Need-returns
+returns c =
+    let a = c .before .before .before .before .before .args in
+    (told c, two-le (λ i. inside (a .low) (a .high) (field lowFirst (a .page .now) (8 * a .at + a .b + i * a .w) (a .w))) _ (told c))
+
+pub two-spec : {M : Type 1} → statement M
+two-spec =
+    tie.close
+    (tie.spec
+    add-load8
+    load8-requires
+    shr-x
+    apart-requires
+    ones-two-requires
+    tests-requires
+    returns)
