@@ -54,31 +54,45 @@ word-eight t = omega arith
 
 -- ---- the words that the functions make of a word's tests, and that these fit
 
--- y is two pairs: its upper one comes down beside the lower one
-module _ (w : ℕ) (t : ℕ → Bool) (y : ℕ) (some : 1 < w) (e : y ≡ lanes 2 (2 * w) (pair t)) where
-  two-digits : y ≡ pair t 1 * 2 ^ (2 * w) + pair t 0
+-- y is two lanes, of which the upper one comes down by all but s of its bits, beside what the lower one holds
+module _ (d s : ℕ) (c : ℕ → ℕ) (y : ℕ) (some : s ≤ d) (small : c 0 < 2 ^ (d - s)) (e : y ≡ lanes 2 d c) where
+  two-digits : y ≡ c 1 * 2 ^ d + c 0
   unfolding lanes joined tabulate
-  two-digits = e ∙ rw (zero-mul, add-zero) (add-comm (pair t 0) (pair t 1 * 2 ^ (2 * w)))
+  two-digits = e ∙ rw (zero-mul, add-zero) (add-comm (c 0) (c 1 * 2 ^ d))
 
-  upper : y / 2 ^ (2 * w - 2) ≡ pair t 1 * 4
-  upper =
-      let size : 2 * w ≡ 2 + (2 * w - 2) = omega arith in
-      let scaled : pair t 1 * 2 ^ (2 * w) ≡ pair t 1 * 4 * 2 ^ (2 * w - 2) =
-      ap (λ (k : ℕ). pair t 1 * 2 ^ k) size ∙ ap (λ (k : ℕ). pair t 1 * k) (pow-add 2 2 (2 * w - 2)) ∙ sym (mul-assoc (pair t 1) 4 (2 ^ (2 * w - 2))) in
-      let small : pair t 0 < 2 ^ (2 * w - 2) = lt-of-lt-of-le (pair-lt t 0) (pow-mono {i = 2} {j = 2 * w - 2} (omega arith)) in
-      ap (λ (k : ℕ). k / 2 ^ (2 * w - 2)) (two-digits ∙ ap (λ (k : ℕ). k + pair t 0) scaled) ∙ high (pair t 1 * 4) (2 * w - 2) small
+  -- a number at bit d is one at any bit below
+  moved : (k : ℕ) → k ≤ d → c 1 * 2 ^ d ≡ c 1 * 2 ^ k * 2 ^ (d - k)
+  moved k h =
+      let size : d ≡ k + (d - k) = omega arith in
+      ap (λ (j : ℕ). c 1 * 2 ^ j) size ∙ ap (λ (j : ℕ). c 1 * j) (pow-add 2 k (d - k)) ∙ sym (mul-assoc (c 1) (2 ^ k) (2 ^ (d - k)))
+
+  upper : y / 2 ^ (d - s) ≡ c 1 * 2 ^ s
+  upper = ap (λ (k : ℕ). k / 2 ^ (d - s)) (two-digits ∙ ap (λ (k : ℕ). k + c 0) (moved s some)) ∙ high (c 1 * 2 ^ s) (d - s) small
+
+  sum : y + y / 2 ^ (d - s) ≡ c 1 * 2 ^ d + (c 0 + c 1 * 2 ^ s)
+  sum = omega (arith, two-digits, upper)
+
+  pub beside : (m : ℕ) → m ≤ d → c 0 + c 1 * 2 ^ s < 2 ^ m → (y + y / 2 ^ (d - s)) % 2 ^ m ≡ c 0 + c 1 * 2 ^ s
+  beside m h fits =
+      let size : d - (d - m) ≡ m = omega arith in
+      let scaled : c 1 * 2 ^ d ≡ c 1 * 2 ^ (d - m) * 2 ^ m = moved (d - m) (omega arith) ∙ ap (λ (k : ℕ). c 1 * 2 ^ (d - m) * 2 ^ k) size in
+      ap (λ (k : ℕ). k % 2 ^ m) (sum ∙ ap (λ (k : ℕ). k + (c 0 + c 1 * 2 ^ s)) scaled) ∙ low (c 1 * 2 ^ (d - m)) m fits
+
+  pub beside-fits : d ≤ 32 → c 1 < 128 → c 0 + c 1 * 2 ^ s < 256 → y + y / 2 ^ (d - s) < 2 ^ 64
+  beside-fits h few fits =
+      let most : c 1 ≤ 127 = omega arith in
+      omega (arith, sum, mul-le-mul-right (2 ^ d) most, pow-mono {i = d} {j = 32} h)
+
+-- y is two pairs
+module _ (w : ℕ) (t : ℕ → Bool) (y : ℕ) (some : 1 < w) (e : y ≡ lanes 2 (2 * w) (pair t)) where
+  room : pair t 0 < 2 ^ (2 * w - 2)
+  room = lt-of-lt-of-le (pair-lt t 0) (pow-mono {i = 2} {j = 2 * w - 2} (omega arith))
 
   pub four-fits : w ≤ 16 → y + y / 2 ^ (2 * w - 2) < 2 ^ 64
-  four-fits h =
-      let few : pair t 1 ≤ 3 = omega (arith, pair-lt t 1) in
-      omega (arith, two-digits, upper, mul-le-mul-right (2 ^ (2 * w)) few, pow-mono {i = 2 * w} {j = 32} (omega arith), pair-lt t 0)
+  four-fits h = beside-fits (2 * w) 2 (pair t) y (omega arith) room e (omega arith) (omega (arith, pair-lt t 1)) (omega (arith, pair-lt t 0, pair-lt t 1))
 
   pub four-tests : (y + y / 2 ^ (2 * w - 2)) % 16 ≡ word 4 t
-  four-tests =
-      let size : 2 * w ≡ 2 * w - 4 + 4 = omega arith in
-      let scaled : pair t 1 * 2 ^ (2 * w) ≡ pair t 1 * 2 ^ (2 * w - 4) * 16 =
-      ap (λ (k : ℕ). pair t 1 * 2 ^ k) size ∙ ap (λ (k : ℕ). pair t 1 * k) (pow-add 2 (2 * w - 4) 4) ∙ sym (mul-assoc (pair t 1) (2 ^ (2 * w - 4)) 16) in
-      omega (arith, two-digits, upper, pair-lt t 0, pair-lt t 1, word-four t)
+  four-tests = beside (2 * w) 2 (pair t) y (omega arith) room e 4 (omega arith) (omega (arith, pair-lt t 0, pair-lt t 1)) ∙ word-four t
 
 -- the bits of tests 4 × i to 4 × i + 3
 unfoldable pub fours : (ℕ → Bool) → ℕ → ℕ
@@ -107,40 +121,47 @@ module _ (w : ℕ) (t : ℕ → Bool) (y : ℕ) (some : 0 < w) (e : y ≡ lanes 
 pub twos-fit : (w : ℕ) → 0 < w → w ≤ 8 → 3 * lanes 2 (2 * (2 * w)) (λ i. 1) < 2 ^ 64
 twos-fit w some h = every-fits 2 (2 * (2 * w)) (2 * w) 3 (omega arith) (omega arith) (omega (arith, pow-mono {i = 1} {j = 2 * w} (omega arith)))
 
--- two halves of a word, of which the upper one comes down twice as large
-half-sum : (e o y : ℕ) → e < 128 → o < 64 + 32 → y ≡ e + o * 4294967296 → y + y / 2 ^ 31 ≡ e + o * 2 + o * 4294967296
-half-sum e o y h k f = omega arith
+-- the bits of every second test, from test k on
+unfoldable pub seconds : (ℕ → Bool) → ℕ → ℕ
+seconds t k = flag (t (0 + k)) + flag (t (2 + k)) * 4 + flag (t (4 + k)) * 16 + flag (t (6 + k)) * 64
 
--- y is eight tests, of which every second one lies in a half of the word: those of the upper half come down between those of the lower
-module _ (t : ℕ → Bool) (y : ℕ)
-    (e : y ≡ lanes 2 32 (λ i. flag (t (0 + i))) + lanes 2 32 (λ i. flag (t (2 + i))) * 4 + lanes 2 32 (λ i. flag (t (4 + i))) * 16 + lanes 2 32 (λ i. flag (t (6 + i))) * 64) where
-  abbrev lower : ℕ
-  lower = flag (t 0) + flag (t 2) * 4 + flag (t 4) * 16 + flag (t 6) * 64
+seconds-lt : (t : ℕ → Bool) (k : ℕ) → seconds t k < 86
+unfolding seconds
+seconds-lt t k = omega (arith, flag-lt (t (0 + k)), flag-lt (t (2 + k)), flag-lt (t (4 + k)), flag-lt (t (6 + k)))
 
-  abbrev upper-half : ℕ
-  upper-half = flag (t 1) + flag (t 3) * 4 + flag (t 5) * 16 + flag (t 7) * 64
+word-seconds : (t : ℕ → Bool) → seconds t 0 + seconds t 1 * 2 ≡ word 8 t
+unfolding seconds word
+word-seconds t = omega arith
 
-  lower-lt : lower < 86
-  lower-lt = omega (arith, flag-lt (t 0), flag-lt (t 2), flag-lt (t 4), flag-lt (t 6))
+-- y is four times two tests, in lanes of w + 1 bits: those of the upper lane come down between those of the lower one
+module _ (w : ℕ) (t : ℕ → Bool) (y : ℕ) (some : 7 ≤ w)
+    (e : y ≡ lanes 2 (w + 1) (λ i. flag (t (0 + i))) + lanes 2 (w + 1) (λ i. flag (t (2 + i))) * 4 + lanes 2 (w + 1) (λ i. flag (t (4 + i))) * 16 + lanes 2 (w + 1) (λ i. flag (t (6 + i))) * 64) where
+  gathered : y ≡ lanes 2 (w + 1) (seconds t)
+  unfolding seconds
+  gathered =
+      let d : ℕ = w + 1 in
+      let at : (k : ℕ) → ℕ → ℕ = λ k i. flag (t (k + i)) in
+      let two : (k c : ℕ) → lanes 2 d (at k) * c ≡ lanes 2 d (λ i. at k i * c) = λ k c. lanes-mul 2 d (at k) c in
+      e
+      ∙ rw (two 2 4, two 4 16, two 6 64, lanes-add 2 d (at 0) (λ i. at 2 i * 4), lanes-add 2 d (λ i. at 0 i + at 2 i * 4) (λ i. at 4 i * 16), lanes-add 2 d (λ i. at 0 i + at 2 i * 4 + at 4 i * 16) (λ i. at 6 i * 64))
 
-  upper-lt : upper-half < 86
-  upper-lt = omega (arith, flag-lt (t 1), flag-lt (t 3), flag-lt (t 5), flag-lt (t 7))
+  below : w + 1 - 1 ≡ w
+  below = omega arith
 
-  together : y + y / 2 ^ 31 ≡ lower + upper-half * 2 + upper-half * 4294967296
-  unfolding lanes joined tabulate
-  together = half-sum lower upper-half y (omega (arith, lower-lt)) (omega (arith, upper-lt)) (omega (arith, e))
+  small : seconds t 0 < 2 ^ (w + 1 - 1)
+  small = rw (below) (omega (arith, seconds-lt t 0, pow-mono {i = 7} {j = w} some))
 
-  pub halves-fit : y + y / 2 ^ 31 < 2 ^ 64
-  halves-fit = omega (arith, together, lower-lt, upper-lt)
+  pub second-fits : w < 32 → y + y / 2 ^ w < 2 ^ 64
+  second-fits h =
+      rw (below) at (beside-fits (w + 1) 1 (seconds t) y (omega arith) small gathered (omega arith) (omega (arith, seconds-lt t 1)) (omega (arith, seconds-lt t 0, seconds-lt t 1)))
 
-  byte : word 8 t ≡ lower + upper-half * 2
-  unfolding word
-  byte = omega arith
+  pub second-tests : (y + y / 2 ^ w) % 256 ≡ word 8 t
+  second-tests =
+      rw (below) at (beside (w + 1) 1 (seconds t) y (omega arith) small gathered 8 (omega arith) (omega (arith, seconds-lt t 0, seconds-lt t 1))) ∙ word-seconds t
 
-  pub halves-tests : (y + y / 2 ^ 31) % 256 ≡ word 8 t
-  halves-tests = omega (arith, together, lower-lt, upper-lt, byte)
-
--- the tests of two entries, one in each half
-pub two-le : (t : ℕ → Bool) (r : ℕ) → r ≡ lanes 2 32 (λ i. flag (t i)) → r ≤ 4294967297
+-- the tests of two entries, one in each lane
+pub two-le : (d : ℕ) (t : ℕ → Bool) (r : ℕ) → d ≤ 32 → r ≡ lanes 2 d (λ i. flag (t i)) → r ≤ 4294967297
 unfolding lanes joined tabulate
-two-le t r e = omega (arith, flag-lt (t 0), flag-lt (t 1))
+two-le d t r h e =
+    let few : flag (t 1) + 0 * 2 ^ d ≤ 1 = omega (arith, flag-lt (t 1), zero-mul (2 ^ d)) in
+    omega (arith, flag-lt (t 0), mul-le-mul-right (2 ^ d) few, pow-mono {i = d} {j = 32} h)

@@ -4,7 +4,7 @@ use mathlib.Core.Bool.{Bool}
 use Prim.Native.Nat.{ℕ, _+_, _-_, _*_, _/_, _%_, _^_, _≤_, _<_, min}
 use native.Mathlib.Nat.{mul-assoc, mul-comm, add-mul, add-zero, zero-mul, one-mul, div-one, mod-lt, lt-of-lt-of-le}
 use native.Mathlib.Omega.{arith}
-use lib.Pow.{pow-pos, pow-add, pow-mono, split, shr-shr, shl-shr}
+use lib.Pow.{pow-pos, pow-add, pow-mono, split, mod-pow-add, mod-mod-pow, shr-shr, shl-shr}
 use lib.Bits.{bitAnd, and-block, and-zero-l, and-zero-r, and-le-l, and-shr}
 use Rattle.rules.specs.Bits.{flag, tabulate, joined}
 use Rattle.words.specs.Bits.{flag-lt}
@@ -151,10 +151,17 @@ module _ (n d w : ℕ) (f : ℕ → ℕ) (a : ℕ) (wide : w < d) (small : (i : 
   pub tests-all : (lo hi : ℕ) → lanes n d (λ i. flag (inside lo hi (held d w a i))) ≡ lanes n d (λ i. flag (inside lo hi (f i)))
   tests-all lo hi = lanes-ext n d (λ i l. ap (λ (x : ℕ). flag (inside lo hi x)) (holds i l))
 
--- the first two numbers of w bits in x, each in a half of a word
-pub halves : (w x : ℕ) → x % 2 ^ w + x / 2 ^ w % 2 ^ w * 4294967296 ≡ lanes 2 32 (held w w x)
+-- the first two numbers of w bits in x, a bit apart: the second one is added to itself
+pub apart : (w x : ℕ) → let y = x % 2 ^ (2 * w) in y + (y - y % 2 ^ w) ≡ lanes 2 (w + 1) (held w w x)
 unfolding lanes joined tabulate
-halves w x = rw (zero-mul w, one-mul w, div-one x) (omega arith)
+apart w x =
+    let y : ℕ = x % 2 ^ (2 * w) in
+    let size : 2 * w ≡ w + w = omega arith in
+    let whole : y ≡ x / 2 ^ w % 2 ^ w * 2 ^ w + x % 2 ^ w = ap (λ (k : ℕ). x % 2 ^ k) size ∙ mod-pow-add x w w in
+    let lower : y % 2 ^ w ≡ x % 2 ^ w = ap (λ (k : ℕ). x % 2 ^ k % 2 ^ w) size ∙ mod-mod-pow x w w in
+    let twice : (x / 2 ^ w % 2 ^ w + 0 * 2 ^ (w + 1)) * 2 ^ (w + 1) ≡ x / 2 ^ w % 2 ^ w * 2 ^ w * 2 =
+    rw (zero-mul (2 ^ (w + 1)), add-zero, pow-add 2 w 1) (sym (mul-assoc (x / 2 ^ w % 2 ^ w) (2 ^ w) 2)) in
+    rw (zero-mul w, one-mul w, div-one x) (omega (arith, lower, whole, twice))
 
 -- ---- the entries of a word, even and odd ones apart
 

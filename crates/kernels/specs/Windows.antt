@@ -45,10 +45,10 @@ two-fours page o w lo hi =
     ∙ sym (word-add 4 4 t)
 
 -- two entries, from the k-th on
-pub two-from : (page : List ℕ) (o w lo hi k b : ℕ) → b ≡ o + k * w
-    → lanes 2 32 (λ i. flag (inside lo hi (field lowFirst page (b + i * w) w))) ≡ lanes 2 32 (λ i. flag (inside lo hi (field lowFirst page (o + (k + i) * w) w)))
-two-from page o w lo hi k b e =
-    lanes-ext 2 32 (λ i l. ap (λ (j : ℕ). flag (inside lo hi (field lowFirst page j w))) (omega (arith, add-mul k i w)))
+pub two-from : (d : ℕ) (page : List ℕ) (o w lo hi k b : ℕ) → b ≡ o + k * w
+    → lanes 2 d (λ i. flag (inside lo hi (field lowFirst page (b + i * w) w))) ≡ lanes 2 d (λ i. flag (inside lo hi (field lowFirst page (o + (k + i) * w) w)))
+two-from d page o w lo hi k b e =
+    lanes-ext 2 d (λ i l. ap (λ (j : ℕ). flag (inside lo hi (field lowFirst page j w))) (omega (arith, add-mul k i w)))
 
 -- four bytes are an entry of 32 bits
 pub whole-entry : (page : List ℕ) (at k x : ℕ) → Small 8 page → x < 2 ^ 32 → x ≡ number (take 4 (drop (at + 4 * k) page)) → x ≡ field lowFirst page (8 * at + k * 32) 32

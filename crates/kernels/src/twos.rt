@@ -1,4 +1,4 @@
-// Two entries at once, of at most 28 bits: two lie in one window of eight bytes, and are laid apart into the halves of a word.
+// Two entries at once, of 8 to 28 bits: two lie in one window of eight bytes.
 ghost use mathlib.Core.Path.{_≡_};
 ghost use Prim.Native.Nat.{_+_, _*_, _/_, _%_, _≤_, _<_};
 ghost use lib.ListN.{length};
@@ -13,28 +13,29 @@ use crate::marks::pow;
 use crate::marks::tests;
 use words::loads::load8;
 
-// The first two numbers of w bits in a word, each into a half of its own.
+// The first two numbers of w bits in a word, a bit apart: the second one is added to itself.
 fn apart(x: u64, w: usize) -> u64
-    requires { ⌜ w < 32 ⌝ }
-    ensures { λ r. ⌜ r ≡ lanes 2 32 (held w w x) ⌝ }
+    requires { ⌜ w ≤ 28 ⌝ }
+    ensures { λ r. ⌜ r ≡ lanes 2 (w + 1) (held w w x) ⌝ }
 {
-    let p = pow(w);
-    x % p + (x >> w) % p * 4294967296
+    let y = x % pow(2 * w);
+    y + (y - y % pow(w))
 }
 
 // The tests of the two entries from bit b after byte `at` on.
 fn two(page: &[u8], at: usize, b: usize, w: usize, low: u64, high: u64) -> u64
     requires { ⌜ (w ≤ 28) × (at + b / 8 + 8 ≤ length (now page)) ⌝ }
-    ensures told { λ r. ⌜ r ≡ lanes 2 32 (λ i. flag (inside low high (field lowFirst (now (page .entry)) (8 * at + b + i * w) w))) ⌝ }
+    ensures told { λ r. ⌜ r ≡ lanes 2 (w + 1) (λ i. flag (inside low high (field lowFirst (now (page .entry)) (8 * at + b + i * w) w))) ⌝ }
     ensures small { λ r. ⌜ r ≤ 4294967297 ⌝ }
 {
     let x = load8(page, at + b / 8) >> (b % 8);
-    tests(apart(x, w), 2, 32, ones_two(32), w, low, high)
+    let d = w + 1;
+    tests(apart(x, w), 2, d, ones_two(d), w, low, high)
 }
 
-// The tests of the eight entries from byte `at` on. The sum has those of the upper half between those of the lower one.
+// The tests of the eight entries from byte `at` on. The sum has those of the upper lane between those of the lower one.
 fn eight(page: &[u8], at: usize, w: usize, low: u32, span: u32) -> u8
-    requires { ⌜ (w ≤ 28) × (at + w + 8 ≤ length (now page)) ⌝ }
+    requires { ⌜ (8 ≤ w) × (w ≤ 28) × (at + w + 8 ≤ length (now page)) ⌝ }
     ensures { λ r. ⌜ r ≡ word 8 (λ j. inside low (low + span) (field lowFirst (now (page .entry)) (8 * at + j * w) w)) ⌝ }
 {
     let from = low as u64;
@@ -43,10 +44,10 @@ fn eight(page: &[u8], at: usize, w: usize, low: u32, span: u32) -> u8
         + two(page, at, 2 * w, w, from, to) * 4
         + two(page, at, 4 * w, w, from, to) * 16
         + two(page, at, 6 * w, w, from, to) * 64;
-    ((y + (y >> 31)) % 256) as u8
+    ((y + (y >> w)) % 256) as u8
 }
 
-// m groups to m bytes of the bitmap, w up to 28.
+// m groups to m bytes of the bitmap, w from 8 to 28.
 pub fn select_twos(
     page: &[u8],
     bitmap: &mut [u8],
@@ -56,7 +57,7 @@ pub fn select_twos(
     span: u32,
     flip: u8,
 )
-    requires { ⌜ (w ≤ 28) × (m * w + 8 ≤ length (now page)) × (m ≤ length (now bitmap)) × (flip % 255 ≡ 0) ⌝ }
+    requires { ⌜ (8 ≤ w) × (w ≤ 28) × (m * w + 8 ≤ length (now page)) × (m ≤ length (now bitmap)) × (flip % 255 ≡ 0) ⌝ }
     ensures { λ _. ⌜ now (bitmap .exit) ≡ put (now (bitmap .entry)) 0 (selected (now (page .entry)) (8 * m) w (ranging low span flip)) ⌝ }
 {
     let mut g: usize = 0;

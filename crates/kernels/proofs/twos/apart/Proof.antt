@@ -1,41 +1,45 @@
--- `kernels::twos::apart` meets its contract: a remainder in each half.
-use Prim.Native.Nat.{ℕ, _/_, _%_, _^_, _<_}
-use native.Mathlib.Nat.{mod-lt}
+-- `kernels::twos::apart` meets its contract: what stands above the first number is there twice.
+use Prim.Native.Nat.{ℕ, _*_, _%_, _^_, _<_}
+use native.Mathlib.Nat.{mod-lt, mod-le}
 use native.Mathlib.Omega.{arith}
 use lib.Pow.{pow-pos, pow-mono}
 use borrow.Author.Needs.{needs}
-use Rattle.kernels.specs.Marks.{halves}
+use Rattle.kernels.specs.Marks.{apart}
 use Rattle.kernels.proofs.twos.apart.Statement.{statement}
 use Rattle.kernels.proofs.twos.apart.Tie as tie
+
+mul-pow : tie.Need-mul-pow
+mul-pow c = search needs
 
 pow-requires : tie.Need-pow-requires
 pow-requires c κs = search needs
 
+rem-y : tie.Need-rem-y
+rem-y c = omega (arith, c .pow .ensures, pow-pos (2 * c .before .args .w))
+
+pow-requires-2 : tie.Need-pow-requires-2
+pow-requires-2 c κs = search needs
+
 rem-result : tie.Need-rem-result
-rem-result c = omega (arith, c .pow .ensures, pow-pos (c .before .args .w))
+rem-result c = omega (arith, c .pow2 .ensures, pow-pos (c .before .before .args .w))
 
-shr-result : tie.Need-shr-result
-shr-result c = search needs
+sub-result : tie.Need-sub-result
+sub-result c = mod-le _ _
 
-rem-result-2 : tie.Need-rem-result-2
-rem-result-2 c = omega (arith, c .pow .ensures, pow-pos (c .before .args .w))
-
--- both fit their halves
-small : (c : tie.After-pow) (y : ℕ) → y % c .pow .result < 4294967296
-small c y =
-    let w = c .before .args .w in
-    rw (c .pow .ensures) (omega (arith, mod-lt y (pow-pos w), pow-mono {i = w} {j = 32} (omega arith)))
-
-mul-result : tie.Need-mul-result
-mul-result c = omega (arith, small c (c .before .args .x / 2 ^ c .before .args .w))
+-- both numbers lie in 56 bits
+narrow : (c : tie.After-pow2) → c .before .before .args .x % c .before .pow .result < 72057594037927936
+narrow c =
+    let a = c .before .before .args in
+    let d = 2 * a .w in
+    rw (c .before .pow .ensures) (omega (arith, mod-lt (a .x) (pow-pos d), pow-mono {i = d} {j = 56} (omega arith)))
 
 add-result : tie.Need-add-result
-add-result c = omega (arith, small c (c .before .args .x), small c (c .before .args .x / 2 ^ c .before .args .w))
+add-result c = omega (arith, narrow c)
 
 returns : tie.Need-returns
-returns c = rw (c .pow .ensures) (halves (c .before .args .w) (c .before .args .x))
+returns c = rw (c .before .pow .ensures, c .pow2 .ensures) (apart (c .before .before .args .w) (c .before .before .args .x))
 
 pub apart-spec : {M : Type 1} → statement M
 apart-spec =
     tie.close
-    (tie.spec pow-requires rem-result shr-result rem-result-2 mul-result add-result returns)
+    (tie.spec mul-pow pow-requires rem-y pow-requires-2 rem-result sub-result add-result returns)

@@ -1,4 +1,4 @@
--- `kernels::twos::eight` meets its contract: four times two tests, one in each half of a word, brought side by side.
+-- `kernels::twos::eight` meets its contract: four times two tests, one in each lane, brought side by side.
 use mathlib.Core.Path.{_≡_, ap₂, _∙_}
 use mathlib.Core.Bool.{Bool}
 use Prim.Native.Nat.{ℕ, _+_, _*_, _/_, _^_, _≤_}
@@ -9,7 +9,7 @@ use Rattle.rules.specs.Bits.Order.{lowFirst}
 use Rattle.compare.specs.Range.{inside}
 use Rattle.kernels.specs.Lanes.{lanes}
 use Rattle.kernels.specs.Windows.{two-from}
-use Rattle.kernels.specs.Folded.{halves-fit, halves-tests}
+use Rattle.kernels.specs.Folded.{second-fits, second-tests}
 use Rattle.kernels.proofs.twos.eight.Statement.{statement}
 use Rattle.kernels.proofs.twos.eight.Tie as tie
 
@@ -63,7 +63,7 @@ test c j =
 
 all : (c : tie.After-two4)
     → c .before .before .before .two .result + c .before .before .two2 .result * 4 + c .before .two3 .result * 16 + c .two4 .result * 64
-    ≡ lanes 2 32 (λ i. flag (test c (0 + i))) + lanes 2 32 (λ i. flag (test c (2 + i))) * 4 + lanes 2 32 (λ i. flag (test c (4 + i))) * 16 + lanes 2 32 (λ i. flag (test c (6 + i))) * 64
+    ≡ lanes 2 (c .before .before .before .before .before .args .w + 1) (λ i. flag (test c (0 + i))) + lanes 2 (c .before .before .before .before .before .args .w + 1) (λ i. flag (test c (2 + i))) * 4 + lanes 2 (c .before .before .before .before .before .args .w + 1) (λ i. flag (test c (4 + i))) * 16 + lanes 2 (c .before .before .before .before .before .args .w + 1) (λ i. flag (test c (6 + i))) * 64
 all c =
     let a = c .before .before .before .before .before .args in
     let o = 8 * a .at in
@@ -72,19 +72,22 @@ all c =
     ap₂ (λ (u v : ℕ). u + v * 64)
     (ap₂ (λ (u v : ℕ). u + v * 16)
     (ap₂ (λ (u v : ℕ). u + v * 4)
-    (c .before .before .before .two .ensures .0 ∙ two-from (a .page .now) o (a .w) lo hi 0 _ (omega arith))
-    (c .before .before .two2 .ensures .0 ∙ two-from (a .page .now) o (a .w) lo hi 2 _ (omega arith)))
-    (c .before .two3 .ensures .0 ∙ two-from (a .page .now) o (a .w) lo hi 4 _ (omega arith)))
-    (c .two4 .ensures .0 ∙ two-from (a .page .now) o (a .w) lo hi 6 _ (omega arith))
+    (c .before .before .before .two .ensures .0 ∙ two-from (a .w + 1) (a .page .now) o (a .w) lo hi 0 _ (omega arith))
+    (c .before .before .two2 .ensures .0 ∙ two-from (a .w + 1) (a .page .now) o (a .w) lo hi 2 _ (omega arith)))
+    (c .before .two3 .ensures .0 ∙ two-from (a .w + 1) (a .page .now) o (a .w) lo hi 4 _ (omega arith)))
+    (c .two4 .ensures .0 ∙ two-from (a .w + 1) (a .page .now) o (a .w) lo hi 6 _ (omega arith))
+
+shr-result : tie.Need-shr-result
+shr-result c = search needs
 
 add-result : tie.Need-add-result
-add-result c = omega (arith, halves-fit (test c) _ (all c))
+add-result c = omega (arith, second-fits (c .before .before .before .before .before .args .w) (test c) _ (omega arith) (all c) (omega arith))
 
 cast-result : tie.Need-cast-result
 cast-result c = search needs
 
 returns : tie.Need-returns
-returns c = halves-tests (test c) _ (all c)
+returns c = second-tests (c .before .before .before .before .before .args .w) (test c) _ (omega arith) (all c)
 
 pub eight-spec : {M : Type 1} → statement M
 eight-spec =
@@ -104,6 +107,7 @@ eight-spec =
     two-requires-4
     mul-y-3
     add-y-3
+    shr-result
     add-result
     cast-result
     returns)

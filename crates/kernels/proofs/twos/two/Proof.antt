@@ -1,4 +1,4 @@
--- `kernels::twos::two` meets its contract: the two entries of a window, each in a half of a word.
+-- `kernels::twos::two` meets its contract: the two entries of a window, each in a lane of its own.
 use mathlib.Core.Path.{_≡_, ap, _∙_}
 use Prim.Native.Nat.{ℕ, _+_, _*_, _/_, _%_, _^_}
 use native.Mathlib.Omega.{arith}
@@ -23,6 +23,9 @@ load8-requires c κs = search needs
 shr-x : tie.Need-shr-x
 shr-x c = search needs
 
+add-d : tie.Need-add-d
+add-d c = search needs
+
 apart-requires : tie.Need-apart-requires
 apart-requires c κs = search needs
 
@@ -34,10 +37,10 @@ tests-requires c κs =
     let l = c .before .before in
     let a = l .before .before .args in
     let x = l .load8 .result / 2 ^ (a .b % 8) in
-    (omega arith, omega arith, omega arith, c .ones-two .ensures, holds-all 2 32 (a .w) (held (a .w) (a .w) x) _ (omega arith) (λ i m. held-lt (a .w) (a .w) x i) (c .before .apart .ensures))
+    (omega arith, omega arith, omega arith, c .ones-two .ensures, holds-all 2 (a .w + 1) (a .w) (held (a .w) (a .w) x) _ (omega arith) (λ i m. held-lt (a .w) (a .w) x i) (c .before .apart .ensures))
 
 told : (c : tie.After-tests) → let a = c .before .before .before .before .before .args in
-    c .tests .result ≡ lanes 2 32 (λ i. flag (inside (a .low) (a .high) (field lowFirst (a .page .now) (8 * a .at + a .b + i * a .w) (a .w))))
+    c .tests .result ≡ lanes 2 (a .w + 1) (λ i. flag (inside (a .low) (a .high) (field lowFirst (a .page .now) (8 * a .at + a .b + i * a .w) (a .w))))
 told c =
     let l = c .before .before .before in
     let s = l .before in
@@ -46,14 +49,14 @@ told c =
     let x = l .load8 .result / 2 ^ o in
     let all : Small 8 (a .page .now) = λ k. s .shared-slice-known .given k .fits in
     c .tests .ensures
-    ∙ tests-all 2 32 (a .w) (held (a .w) (a .w) x) _ (omega arith) (λ i m. held-lt (a .w) (a .w) x i) (c .before .before .apart .ensures) (a .low) (a .high)
-    ∙ lanes-ext 2 32 (λ i m. ap (λ (v : ℕ). flag (inside (a .low) (a .high) v))
+    ∙ tests-all 2 (a .w + 1) (a .w) (held (a .w) (a .w) x) _ (omega arith) (λ i m. held-lt (a .w) (a .w) x i) (c .before .before .apart .ensures) (a .low) (a .high)
+    ∙ lanes-ext 2 (a .w + 1) (λ i m. ap (λ (v : ℕ). flag (inside (a .low) (a .high) v))
     (window-entry (a .page .now) 2 (a .at + a .b / 8) o (a .w) x all (omega arith) (ap (λ (v : ℕ). v / 2 ^ o) (l .load8 .ensures)) (omega arith) i m))
 
 returns : tie.Need-returns
 returns c =
     let a = c .before .before .before .before .before .args in
-    (told c, two-le (λ i. inside (a .low) (a .high) (field lowFirst (a .page .now) (8 * a .at + a .b + i * a .w) (a .w))) _ (told c))
+    (told c, two-le (a .w + 1) (λ i. inside (a .low) (a .high) (field lowFirst (a .page .now) (8 * a .at + a .b + i * a .w) (a .w))) _ (omega arith) (told c))
 
 pub two-spec : {M : Type 1} → statement M
 two-spec =
@@ -62,6 +65,7 @@ two-spec =
     add-load8
     load8-requires
     shr-x
+    add-d
     apart-requires
     ones-two-requires
     tests-requires
