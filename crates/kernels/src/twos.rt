@@ -1,4 +1,4 @@
-// Two entries at once, of 8 to 28 bits: two lie in one window of eight bytes.
+// Two entries at once, of 8 to 30 bits: two lie in one window of eight bytes.
 ghost use mathlib.Core.Path.{_≡_};
 ghost use Prim.Native.Nat.{_+_, _*_, _/_, _%_, _≤_, _<_};
 ghost use lib.ListN.{length};
@@ -15,7 +15,7 @@ use words::loads::load8;
 
 // The first two numbers of w bits in a word, a bit apart: the second one is added to itself.
 fn apart(x: u64, w: usize) -> u64
-    requires { ⌜ w ≤ 28 ⌝ }
+    requires { ⌜ w ≤ 30 ⌝ }
     ensures { λ r. ⌜ r ≡ lanes 2 (w + 1) (held w w x) ⌝ }
 {
     let y = x % pow(2 * w);
@@ -24,7 +24,7 @@ fn apart(x: u64, w: usize) -> u64
 
 // The tests of the two entries from bit b after byte `at` on.
 fn two(page: &[u8], at: usize, b: usize, w: usize, low: u64, high: u64) -> u64
-    requires { ⌜ (w ≤ 28) × (at + b / 8 + 8 ≤ length (now page)) ⌝ }
+    requires { ⌜ (w ≤ 30) × (b % 8 + 2 * w ≤ 64) × (at + b / 8 + 8 ≤ length (now page)) ⌝ }
     ensures told { λ r. ⌜ r ≡ lanes 2 (w + 1) (λ i. flag (inside low high (field lowFirst (now (page .entry)) (8 * at + b + i * w) w))) ⌝ }
     ensures small { λ r. ⌜ r ≤ 4294967297 ⌝ }
 {
@@ -35,7 +35,7 @@ fn two(page: &[u8], at: usize, b: usize, w: usize, low: u64, high: u64) -> u64
 
 // The tests of the eight entries from byte `at` on. The sum has those of the upper lane between those of the lower one.
 fn eight(page: &[u8], at: usize, w: usize, low: u32, span: u32) -> u8
-    requires { ⌜ (8 ≤ w) × (w ≤ 28) × (at + w + 8 ≤ length (now page)) ⌝ }
+    requires { ⌜ (8 ≤ w) × (w ≤ 30) × (at + w + 8 ≤ length (now page)) ⌝ }
     ensures { λ r. ⌜ r ≡ word 8 (λ j. inside low (low + span) (field lowFirst (now (page .entry)) (8 * at + j * w) w)) ⌝ }
 {
     let from = low as u64;
@@ -47,7 +47,7 @@ fn eight(page: &[u8], at: usize, w: usize, low: u32, span: u32) -> u8
     ((y + (y >> w)) % 256) as u8
 }
 
-// m groups to m bytes of the bitmap, w from 8 to 28.
+// m groups to m bytes of the bitmap, w from 8 to 30.
 pub fn select_twos(
     page: &[u8],
     bitmap: &mut [u8],
@@ -57,7 +57,7 @@ pub fn select_twos(
     span: u32,
     flip: u8,
 )
-    requires { ⌜ (8 ≤ w) × (w ≤ 28) × (m * w + 8 ≤ length (now page)) × (m ≤ length (now bitmap)) × (flip % 255 ≡ 0) ⌝ }
+    requires { ⌜ (8 ≤ w) × (w ≤ 30) × (m * w + 8 ≤ length (now page)) × (m ≤ length (now bitmap)) × (flip % 255 ≡ 0) ⌝ }
     ensures { λ _. ⌜ now (bitmap .exit) ≡ put (now (bitmap .entry)) 0 (selected (now (page .entry)) (8 * m) w (ranging low span flip)) ⌝ }
 {
     let mut g: usize = 0;

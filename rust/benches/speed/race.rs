@@ -3,15 +3,17 @@
 use std::fmt::Debug;
 use std::hint::black_box;
 
-use crate::clock::{time, Taken};
+use crate::clock::time;
 use crate::column::ENTRIES;
+use crate::steps;
+use crate::table::Measured;
 
 /// One way: it writes to the place lent, and gives a number.
 pub type Way<'a, T> = &'a dyn Fn(&mut [T]) -> usize;
 
-/// The time of each way, and what they all wrote.
+/// What was measured of each way, and what they all wrote.
 pub struct Raced<T> {
-    pub taken: Vec<Taken>,
+    pub measured: Measured,
     pub written: Vec<T>,
 }
 
@@ -29,6 +31,14 @@ where
 
     let timed = ways.iter().zip(&mut places);
     let timed = timed.map(|(way, place)| move || _ = black_box(way(black_box(place))));
-    let taken = time(ENTRIES, &mut timed.collect::<Vec<_>>());
-    Raced { taken, written }
+    let mut timed: Vec<_> = timed.collect();
+    let taken = time(ENTRIES, &mut timed);
+    let instructions = steps::an_entry(ENTRIES, &mut timed[0]);
+    Raced {
+        measured: Measured {
+            taken,
+            instructions,
+        },
+        written,
+    }
 }

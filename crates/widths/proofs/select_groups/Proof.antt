@@ -91,20 +91,20 @@ select-twos-requires-11 c κs = omega (arith, rw (c .before .match .keys28) at (
 select-twos-requires-12 : tie.Need-select-twos-requires-12
 select-twos-requires-12 c κs = omega (arith, rw (c .before .match .keys29) at (c .before .before .before .before .pre))
 
+select-twos-requires-13 : tie.Need-select-twos-requires-13
+select-twos-requires-13 c κs = omega (arith, rw (c .before .match .keys30) at (c .before .before .before .before .pre))
+
+select-twos-requires-14 : tie.Need-select-twos-requires-14
+select-twos-requires-14 c κs = omega (arith, rw (c .before .match .keys31) at (c .before .before .before .before .pre))
+
 select-each-requires-2 : tie.Need-select-each-requires-2
-select-each-requires-2 c κs = omega (arith, rw (c .before .match .keys30) at (c .before .before .before .before .pre))
-
-select-each-requires-3 : tie.Need-select-each-requires-3
-select-each-requires-3 c κs = omega (arith, rw (c .before .match .keys31) at (c .before .before .before .before .pre))
-
-select-each-requires-4 : tie.Need-select-each-requires-4
-select-each-requires-4 c κs = omega (arith, rw (c .before .match .keys32) at (c .before .before .before .before .pre))
+select-each-requires-2 c κs = omega (arith, rw (c .before .match .keys32) at (c .before .before .before .before .pre))
 
 select-wholes-requires : tie.Need-select-wholes-requires
 select-wholes-requires c κs = omega (arith, rw (c .before .match .keys33) at (c .before .before .before .before .pre))
 
-select-each-requires-5 : tie.Need-select-each-requires-5
-select-each-requires-5 c κs = search needs
+select-each-requires-3 : tie.Need-select-each-requires-3
+select-each-requires-3 c κs = search needs
 
 same-length : tie.Need-same-length
 same-length c = omega arith
@@ -284,19 +284,19 @@ same-length-30 : tie.Need-same-length-30
 same-length-30 c = omega arith
 
 returns-30 : tie.Need-returns-30
-returns-30 c = rw (c .before .before .before .before .match .keys30) (c .before .before .select-each2 .ensures)
+returns-30 c = rw (c .before .before .before .before .match .keys30) (c .before .before .select-twos13 .ensures)
 
 same-length-31 : tie.Need-same-length-31
 same-length-31 c = omega arith
 
 returns-31 : tie.Need-returns-31
-returns-31 c = rw (c .before .before .before .before .match .keys31) (c .before .before .select-each3 .ensures)
+returns-31 c = rw (c .before .before .before .before .match .keys31) (c .before .before .select-twos14 .ensures)
 
 same-length-32 : tie.Need-same-length-32
 same-length-32 c = omega arith
 
 returns-32 : tie.Need-returns-32
-returns-32 c = rw (c .before .before .before .before .match .keys32) (c .before .before .select-each4 .ensures)
+returns-32 c = rw (c .before .before .before .before .match .keys32) (c .before .before .select-each2 .ensures)
 
 same-length-33 : tie.Need-same-length-33
 same-length-33 c = omega arith
@@ -308,7 +308,7 @@ same-length-34 : tie.Need-same-length-34
 same-length-34 c = omega arith
 
 returns-34 : tie.Need-returns-34
-returns-34 c = c .before .before .select-each5 .ensures
+returns-34 c = c .before .before .select-each3 .ensures
 
 pub select-groups-spec : {M : Type 1} → statement M
 select-groups-spec =
@@ -343,11 +343,11 @@ select-groups-spec =
     select-twos-requires-10
     select-twos-requires-11
     select-twos-requires-12
+    select-twos-requires-13
+    select-twos-requires-14
     select-each-requires-2
-    select-each-requires-3
-    select-each-requires-4
     select-wholes-requires
-    select-each-requires-5
+    select-each-requires-3
     same-length
     returns
     same-length-2

@@ -1,16 +1,15 @@
 //! Dictionary columns: scan and unpack over runs of indexes of different shapes.
 
-mod obvious;
+mod parquet_way;
 
 use std::hint::black_box;
 
 use cahermisk::{dictionary, Comparison};
 
-use crate::clock::Taken;
 use crate::column::{band, entries, ENTRIES};
 use crate::race::race;
 use crate::runs::stream::Shape;
-use crate::table::Table;
+use crate::table::{Measured, Table};
 
 /// The widths that a dictionary's indexes need.
 const WIDTHS: [u32; 14] = [1, 2, 3, 4, 5, 6, 7, 8, 9, 10, 11, 12, 13, 14];
@@ -37,7 +36,7 @@ const MIXTURE: &str = "repeated runs of 8 to 40 and packed runs of 1 to 8 groups
 /// Prints all tables, and gives those to be drawn.
 pub fn report() -> Vec<Table> {
     println!(
-        "\nobvious: safe Rust, indexes read into a list, packed ones by eight with constant shifts; then each looked up and compared."
+        "\nparquet way: safe Rust, indexes read into a list, packed ones by eight with constant shifts; then each looked up and compared."
     );
     println!("A width is that of the indexes; the dictionary has three quarters of the values that they count.");
     let mixed = scans(MIXTURE, Shape::Mixed, Values::Most);
@@ -45,14 +44,14 @@ pub fn report() -> Vec<Table> {
     scans(&all, Shape::Mixed, Values::All);
     scans("long repeated runs", Shape::Long, Values::Most);
     let title = "Dictionary unpack, 16,384 entries, the same mixture";
-    Table::of(title, &["obvious"], WIDTHS, unpack);
+    Table::of(title, &["parquet way"], WIDTHS, unpack);
     vec![mixed]
 }
 
 fn scans(title: &str, shape: Shape, values: Values) -> Table {
     let title = format!("Dictionary scan, 16,384 entries, {title}");
     let measured = |width| scan(width, shape, values);
-    Table::of(&title, &["obvious"], WIDTHS, measured)
+    Table::of(&title, &["parquet way"], WIDTHS, measured)
 }
 
 /// The value of an index: values go up by 5, from below 0.
@@ -71,7 +70,7 @@ fn column(width: u32, shape: Shape, values: Values) -> (Vec<u8>, Vec<u8>) {
     (dictionary.collect(), page)
 }
 
-fn scan(width: u32, shape: Shape, values: Values) -> Vec<Taken> {
+fn scan(width: u32, shape: Shape, values: Values) -> Measured {
     let (values, page) = column(width, shape, values);
     let (low, high) = band(width);
     let (low, high) = (value(low), value(high));
@@ -80,19 +79,20 @@ fn scan(width: u32, shape: Shape, values: Values) -> Vec<Taken> {
         let count = dictionary::scan(black_box(&values), &page, ENTRIES, between, bitmap);
         count.expect("a good column")
     };
-    let obvious = |bitmap: &mut [u8]| {
-        let count = obvious::scan(black_box(&values), &page, ENTRIES, low, high, bitmap);
+    let parquet_way = |bitmap: &mut [u8]| {
+        let count = parquet_way::scan(black_box(&values), &page, ENTRIES, low, high, bitmap);
         count.expect("a good column")
     };
-    race(width, &[0xA5; ENTRIES / 8], &[&ours, &obvious]).taken
+    race(width, &[0xA5; ENTRIES / 8], &[&ours, &parquet_way]).measured
 }
 
-fn unpack(width: u32) -> Vec<Taken> {
+fn unpack(width: u32) -> Measured {
     let (values, page) = column(width, Shape::Mixed, Values::Most);
     let ours = |list: &mut [i32]| {
         dictionary::unpack(black_box(&values), &page, ENTRIES, list).expect("a good column")
     };
-    let obvious =
-        |list: &mut [i32]| obvious::unpack(black_box(&values), &page, list).expect("a good column");
-    race(width, &[0xA5; ENTRIES], &[&ours, &obvious]).taken
+    let parquet_way = |list: &mut [i32]| {
+        parquet_way::unpack(black_box(&values), &page, list).expect("a good column")
+    };
+    race(width, &[0xA5; ENTRIES], &[&ours, &parquet_way]).measured
 }

@@ -1,37 +1,38 @@
 //! Bare horizontal pages: scan at every width, unpack and pack at some.
 
-pub mod best;
+mod best;
 mod obvious;
+pub mod parquet_way;
 
 use std::hint::black_box;
 
 use cahermisk::{horizontal, Comparison};
 
-use crate::clock::Taken;
 use crate::column::{band, entries, ENTRIES, SOME_WIDTHS};
-use crate::race::race;
-use crate::table::Table;
+use crate::race::{race, Way};
+use crate::table::{Measured, Table};
 
 /// Prints all tables, and gives those to be drawn.
 pub fn report() -> Vec<Table> {
     println!(
         "\nobvious: safe Rust, one entry after another, each through a window of eight bytes."
     );
-    println!("best: 64 entries unpacked with constant shifts, then compared into one word of the bitmap.");
+    println!("parquet way: unpacked 64 at once with constant shifts, 1,024 into a list; then compared, 64 to a word of the bitmap.");
+    println!("best: unsafe Rust, several entries compared at once in the lanes of a word, by constants for each width.");
     let scans = Table::of(
         "Horizontal scan, 16,384 entries, a band of half the numbers",
-        &["obvious", "best"],
+        &["obvious", "parquet way", "best"],
         1..=32,
         scan,
     );
-    let others = &["obvious"];
     Table::of(
         "Horizontal unpack, 16,384 entries",
-        others,
+        &["obvious", "parquet way"],
         SOME_WIDTHS,
         unpack,
     );
-    Table::of("Horizontal pack, 16,384 entries", others, SOME_WIDTHS, pack);
+    let title = "Horizontal pack, 16,384 entries";
+    Table::of(title, &["obvious"], SOME_WIDTHS, pack);
     vec![scans]
 }
 
@@ -39,7 +40,7 @@ fn page(width: u32) -> Vec<u8> {
     horizontal::pack_to_vec(&entries(width), width).expect("the entries fit the width")
 }
 
-fn scan(width: u32) -> Vec<Taken> {
+fn scan(width: u32) -> Measured {
     let page = page(width);
     let (low, high) = band(width);
     let between = Comparison::between(low.into(), high.into());
@@ -47,22 +48,26 @@ fn scan(width: u32) -> Vec<Taken> {
         horizontal::scan(black_box(&page), width, ENTRIES, between, bitmap).expect("a good page")
     };
     let obvious = |bitmap: &mut [u8]| obvious::scan(black_box(&page), width, low, high, bitmap);
+    let parquet_way =
+        |bitmap: &mut [u8]| parquet_way::scan(black_box(&page), width, low, high, bitmap);
     let best = |bitmap: &mut [u8]| best::scan(black_box(&page), width, low, high, bitmap);
-    race(width, &[0xA5; ENTRIES / 8], &[&ours, &obvious, &best]).taken
+    let ways: [Way<u8>; 4] = [&ours, &obvious, &parquet_way, &best];
+    race(width, &[0xA5; ENTRIES / 8], &ways).measured
 }
 
-fn unpack(width: u32) -> Vec<Taken> {
+fn unpack(width: u32) -> Measured {
     let page = page(width);
     let ours = |list: &mut [u32]| {
         horizontal::unpack(black_box(&page), width, ENTRIES, list).expect("a good page")
     };
     let obvious = |list: &mut [u32]| obvious::unpack(black_box(&page), width, list);
-    let raced = race(width, &[0xA5; ENTRIES], &[&ours, &obvious]);
+    let parquet_way = |list: &mut [u32]| parquet_way::unpack(black_box(&page), width, list);
+    let raced = race(width, &[0xA5; ENTRIES], &[&ours, &obvious, &parquet_way]);
     assert_eq!(raced.written, entries(width), "width {width}");
-    raced.taken
+    raced.measured
 }
 
-fn pack(width: u32) -> Vec<Taken> {
+fn pack(width: u32) -> Measured {
     let entries = entries(width);
     let ours = |page: &mut [u8]| {
         horizontal::pack(black_box(&entries), width, page).expect("the entries fit the width")
@@ -71,5 +76,5 @@ fn pack(width: u32) -> Vec<Taken> {
         obvious::pack(black_box(&entries), width, page).expect("the entries fit the width")
     };
     let room = vec![0xA5; page(width).len()];
-    race(width, &room, &[&ours, &obvious]).taken
+    race(width, &room, &[&ours, &obvious]).measured
 }

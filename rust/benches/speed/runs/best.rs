@@ -1,9 +1,9 @@
 //! The best Rust for the job: no list of entries. A repeated run is compared once, a packed run 64 entries at once,
 //! and the bits go where the run begins.
 
-use super::obvious::{next, Run};
+use super::parquet_way::{next, Run};
 use crate::column::of_each_width;
-use crate::horizontal::best::{unpack64, word_of};
+use crate::horizontal::parquet_way::{unpack64, word_of};
 
 /// A bitmap of words that is filled from its first bit on.
 struct Bits {

@@ -1,17 +1,16 @@
 //! Run streams: scan over runs of different shapes, unpack and pack over a mixture, at some widths.
 
 mod best;
-pub mod obvious;
+pub mod parquet_way;
 pub mod stream;
 
 use std::hint::black_box;
 
 use cahermisk::{runs, Comparison};
 
-use crate::clock::Taken;
 use crate::column::{band, ENTRIES};
 use crate::race::race;
-use crate::table::Table;
+use crate::table::{Measured, Table};
 use stream::Shape;
 
 const WIDTHS: [u32; 7] = [1, 3, 7, 8, 12, 20, 32];
@@ -19,7 +18,7 @@ const WIDTHS: [u32; 7] = [1, 3, 7, 8, 12, 20, 32];
 /// Prints all tables, and gives those to be drawn: the first shape and the mixture.
 pub fn report() -> Vec<Table> {
     println!(
-        "\nobvious: safe Rust, runs read into a list of entries, packed ones by eight with constant shifts; then compared."
+        "\nparquet way: safe Rust, runs read into a list of entries, packed ones by eight with constant shifts; then compared."
     );
     println!("best: no list; each run's bits are put into the bitmap, packed ones 64 at once.");
     let scans = [
@@ -36,53 +35,54 @@ pub fn report() -> Vec<Table> {
     ];
     let [long, _, _, mixed] = scans.map(|(title, shape)| {
         let title = format!("Run stream scan, 16,384 entries, {title}");
-        let others = &["obvious", "best"];
+        let others = &["parquet way", "best"];
         Table::of(&title, others, WIDTHS, |width| scan(width, shape))
     });
-    for (title, measured) in [("unpack", unpack as fn(u32) -> Vec<Taken>), ("pack", pack)] {
+    for (title, measured) in [("unpack", unpack as fn(u32) -> Measured), ("pack", pack)] {
         let title = format!("Run stream {title}, 16,384 entries, the same mixture");
-        Table::of(&title, &["obvious"], WIDTHS, measured);
+        Table::of(&title, &["parquet way"], WIDTHS, measured);
     }
     vec![long, mixed]
 }
 
-fn scan(width: u32, shape: Shape) -> Vec<Taken> {
+fn scan(width: u32, shape: Shape) -> Measured {
     let page = shape.stream(width);
     let (low, high) = band(width);
     let between = Comparison::between(low.into(), high.into());
     let ours = |bitmap: &mut [u8]| {
         runs::scan(black_box(&page), width, ENTRIES, between, bitmap).expect("a good stream")
     };
-    let obvious = |bitmap: &mut [u8]| {
-        let count = obvious::scan(black_box(&page), width, ENTRIES, low, high, bitmap);
+    let parquet_way = |bitmap: &mut [u8]| {
+        let count = parquet_way::scan(black_box(&page), width, ENTRIES, low, high, bitmap);
         count.expect("a good stream")
     };
     let best = |bitmap: &mut [u8]| {
         let count = best::scan(black_box(&page), width, ENTRIES, low, high, bitmap);
         count.expect("a good stream")
     };
-    race(width, &[0xA5; ENTRIES / 8], &[&ours, &obvious, &best]).taken
+    race(width, &[0xA5; ENTRIES / 8], &[&ours, &parquet_way, &best]).measured
 }
 
-fn unpack(width: u32) -> Vec<Taken> {
+fn unpack(width: u32) -> Measured {
     let page = Shape::Mixed.stream(width);
     let ours = |list: &mut [u32]| {
         runs::unpack(black_box(&page), width, ENTRIES, list).expect("a good stream")
     };
-    let obvious =
-        |list: &mut [u32]| obvious::unpack(black_box(&page), width, list).expect("a good stream");
-    race(width, &[0xA5; ENTRIES], &[&ours, &obvious]).taken
+    let parquet_way = |list: &mut [u32]| {
+        parquet_way::unpack(black_box(&page), width, list).expect("a good stream")
+    };
+    race(width, &[0xA5; ENTRIES], &[&ours, &parquet_way]).measured
 }
 
-fn pack(width: u32) -> Vec<Taken> {
+fn pack(width: u32) -> Measured {
     let page = Shape::Mixed.stream(width);
     let entries = runs::unpack_to_vec(&page, width, ENTRIES).expect("a good stream");
     let ours = |page: &mut [u8]| {
         runs::pack(black_box(&entries), width, page).expect("the entries fit the width")
     };
-    let obvious = |page: &mut [u8]| {
-        obvious::pack(black_box(&entries), width, page).expect("the entries fit the width")
+    let parquet_way = |page: &mut [u8]| {
+        parquet_way::pack(black_box(&entries), width, page).expect("the entries fit the width")
     };
     let room = runs::pack_to_vec(&entries, width).expect("the entries fit the width");
-    race(width, &vec![0xA5; room.len()], &[&ours, &obvious]).taken
+    race(width, &vec![0xA5; room.len()], &[&ours, &parquet_way]).measured
 }

@@ -7,10 +7,9 @@ use std::hint::black_box;
 
 use cahermisk::{vertical, Comparison};
 
-use crate::clock::Taken;
 use crate::column::{band, entries, ENTRIES, SOME_WIDTHS};
 use crate::race::{race, Way};
-use crate::table::Table;
+use crate::table::{Measured, Table};
 
 /// Prints all tables, and gives those to be drawn.
 pub fn report() -> Vec<Table> {
@@ -37,7 +36,7 @@ fn words(width: u32) -> Vec<u64> {
     vertical::pack_to_vec(&entries(width), width).expect("the entries fit the width")
 }
 
-fn scan(width: u32) -> Vec<Taken> {
+fn scan(width: u32) -> Measured {
     let words = words(width);
     let (low, high) = band(width);
     let between = Comparison::between(low.into(), high.into());
@@ -50,10 +49,10 @@ fn scan(width: u32) -> Vec<Taken> {
     let early_exit =
         |bitmap: &mut [u8]| paper::scan::<true>(black_box(&words), width, low, high, bitmap);
     let ways: [Way<u8>; 4] = [&ours, &obvious, &all_planes, &early_exit];
-    race(width, &[0xA5; ENTRIES / 8], &ways).taken
+    race(width, &[0xA5; ENTRIES / 8], &ways).measured
 }
 
-fn unpack(width: u32) -> Vec<Taken> {
+fn unpack(width: u32) -> Measured {
     let words = words(width);
     let ours = |list: &mut [u32]| {
         vertical::unpack(black_box(&words), width, ENTRIES, list).expect("good planes")
@@ -61,10 +60,10 @@ fn unpack(width: u32) -> Vec<Taken> {
     let obvious = |list: &mut [u32]| obvious::unpack(black_box(&words), width, list);
     let raced = race(width, &[0xA5; ENTRIES], &[&ours, &obvious]);
     assert_eq!(raced.written, entries(width), "width {width}");
-    raced.taken
+    raced.measured
 }
 
-fn pack(width: u32) -> Vec<Taken> {
+fn pack(width: u32) -> Measured {
     let entries = entries(width);
     let ours = |words: &mut [u64]| {
         vertical::pack(black_box(&entries), width, words).expect("the entries fit the width")
@@ -73,5 +72,5 @@ fn pack(width: u32) -> Vec<Taken> {
         obvious::pack(black_box(&entries), width, words).expect("the entries fit the width")
     };
     let room = vec![0xA5; words(width).len()];
-    race(width, &room, &[&ours, &obvious]).taken
+    race(width, &room, &[&ours, &obvious]).measured
 }

@@ -26,12 +26,12 @@ rem-result c = omega (arith, c .pow2 .ensures, pow-pos (c .before .before .args 
 sub-result : tie.Need-sub-result
 sub-result c = mod-le _ _
 
--- both numbers lie in 56 bits
-narrow : (c : tie.After-pow2) → c .before .before .args .x % c .before .pow .result < 72057594037927936
+-- both numbers lie in 60 bits
+narrow : (c : tie.After-pow2) → c .before .before .args .x % c .before .pow .result < 1152921504606846976
 narrow c =
     let a = c .before .before .args in
     let d = 2 * a .w in
-    rw (c .before .pow .ensures) (omega (arith, mod-lt (a .x) (pow-pos d), pow-mono {i = d} {j = 56} (omega arith)))
+    rw (c .before .pow .ensures) (omega (arith, mod-lt (a .x) (pow-pos d), pow-mono {i = d} {j = 60} (omega arith)))
 
 add-result : tie.Need-add-result
 add-result c = omega (arith, narrow c)

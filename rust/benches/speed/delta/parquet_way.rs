@@ -1,8 +1,8 @@
-//! The obvious Rust: deltas are unpacked 32 at once, with shifts that are constants for each width, and added up
+//! As Parquet readers do it: deltas are unpacked 32 at once, with shifts that are constants for each width, and added up
 //! into a list of entries; the list is compared.
 
 use crate::column::of_each_width;
-use crate::runs::obvious::{at_once, number, select, take, Writer};
+use crate::runs::parquet_way::{at_once, number, select, take, Writer};
 
 /// A number of a page that is zigzag.
 fn signed(page: &mut &[u8]) -> Option<i32> {

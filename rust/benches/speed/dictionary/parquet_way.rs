@@ -1,6 +1,6 @@
-//! The obvious Rust: indexes are read into a list, then each is looked up among the values and compared.
+//! As Parquet readers do it: indexes are read into a list, then each is looked up among the values and compared.
 
-use crate::runs::obvious::unpack as unpack_indexes;
+use crate::runs::parquet_way::unpack as unpack_indexes;
 
 /// The values of a dictionary, if they ascend.
 fn values(dictionary: &[u8]) -> Option<Vec<i32>> {

@@ -1,4 +1,4 @@
-//! The obvious Rust: runs are read into a list of entries, and the list is compared. Packed runs are unpacked eight
+//! As Parquet readers do it: runs are read into a list of entries, and the list is compared. Packed runs are unpacked eight
 //! entries at once, with shifts that are constants for each width.
 
 use crate::column::of_each_width;
