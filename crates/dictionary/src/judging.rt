@@ -3,7 +3,6 @@ ghost use mathlib.Core.Path.{_≡_};
 ghost use Prim.Native.Nat.{_≤_};
 ghost use Rattle.rules.specs.Answer.{_then_, roomFault};
 ghost use Rattle.rules.specs.Dictionary as Dictionary;
-use crate::indexes::index_fault;
 use crate::indexes::page_fault;
 use crate::values::value_at;
 use answers::room_fault;
@@ -52,9 +51,5 @@ pub fn column_fault(dict: &[u8], page: &[u8], n: usize, places: usize, need: usi
     if dictionary != 0 {
         return dictionary;
     }
-    let reading = page_fault(page, n);
-    if reading != 0 {
-        return reading;
-    }
-    index_fault(page, n, dict.len() / 4)
+    page_fault(page, n, dict.len() / 4)
 }

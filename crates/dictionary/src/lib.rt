@@ -1,6 +1,7 @@
 // Dictionary columns: scan, unpack.
 pub mod indexes;
 pub mod judging;
+pub mod large;
 pub mod looking_up;
 pub mod reading;
 pub mod scanning;

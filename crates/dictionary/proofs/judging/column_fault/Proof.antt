@@ -24,34 +24,17 @@ returns-2 c =
     sym (then-none _ _ (sym (d .before .before .room-fault .ensures) ∙ d .before .if1 .left) ∙ then-found _ _ _ (sym (d .dictionary-fault .ensures)) (c .if2 .taken))
 
 page-fault-requires : tie.Need-page-fault-requires
-page-fault-requires c κs = search needs
+page-fault-requires c κs =
+    let good = good-dictionary _ (sym (c .before .dictionary-fault .ensures) ∙ c .if2 .left) in
+    (search needs, omega (arith, good .short))
 
 returns-3 : tie.Need-returns-3
-unfolding columnFault
+unfolding columnFault indexFault
 returns-3 c =
     let p = c .before in
-    let d = p .before .before in
-    sym
-    (then-none _ _ (sym (d .before .before .room-fault .ensures) ∙ d .before .if1 .left) ∙ then-none _ _ (sym (d .dictionary-fault .ensures) ∙ p .before .if2 .left)
-    ∙ then-found _ _ _ (sym (p .page-fault .ensures)) (c .if3 .taken))
-
-index-fault-requires : tie.Need-index-fault-requires
-index-fault-requires c κs =
-    let p = c .before in
-    let d = p .before .before in
-    let good = good-dictionary _ (sym (d .dictionary-fault .ensures) ∙ p .before .if2 .left) in
-    (search needs, omega (arith, good .short), sym (p .page-fault .ensures) ∙ c .if3 .left)
-
-returns-4 : tie.Need-returns-4
-unfolding columnFault indexFault
-returns-4 c =
-    let e = c .before in
-    let p = e .before in
-    let d = p .before .before in
-    c .index-fault .ensures
-    ∙ sym
-    (then-none _ _ (sym (d .before .before .room-fault .ensures) ∙ d .before .if1 .left) ∙ then-none _ _ (sym (d .dictionary-fault .ensures) ∙ p .before .if2 .left)
-    ∙ then-none _ _ (sym (p .page-fault .ensures) ∙ e .if3 .left))
+    let d = p .before in
+    c .page-fault .ensures
+    ∙ sym (then-none _ _ (sym (d .before .before .room-fault .ensures) ∙ d .before .if1 .left) ∙ then-none _ _ (sym (d .dictionary-fault .ensures) ∙ p .if2 .left))
 
 pub column-fault-spec : {M : Type 1} → statement M
 column-fault-spec =
@@ -62,6 +45,4 @@ column-fault-spec =
     dictionary-fault-requires
     returns-2
     page-fault-requires
-    returns-3
-    index-fault-requires
-    returns-4)
+    returns-3)
