@@ -1,51 +1,26 @@
 -- Whether some entry of a stream passes a test, found run by run while the stream is judged.
 use mathlib.Core.Path.{_≡_, refl, sym, ap, subst, _∙_}
-use mathlib.Core.Bool.{Bool, true, false, _||_, or-assoc}
+use mathlib.Core.Bool.{Bool, false, _||_}
 use mathlib.Core.List.{List}
 use Prim.{tt}
-use Prim.Native.Nat.{ℕ, zero, suc, _+_, _-_, _*_, _≤_, _<_, min}
-use native.Mathlib.Nat.{zero-add, suc-add}
+use Prim.Native.Nat.{ℕ, _+_, _-_, _*_, _≤_, _<_, min}
 use native.Mathlib.Omega.{arith}
-use lib.Dec.{ltb}
 use lib.ListN.{getD, take, drop}
 use Rattle.rules.specs.Answer.{faulty, _then_}
 use Rattle.rules.specs.Bits.{someBelow, field, entry}
 use Rattle.rules.specs.Bits.Order.{lowFirst}
 use Rattle.rules.specs.Runs.{Piece, cutEntries, runAt, read, streamFault, streamEntry}
 use Rattle.rules.specs.declared.Run.the-variants.{Repeated, Packed, Refused}
-use Rattle.rules.specs.Bitmap.{tally}
 use Rattle.rules.specs.Grammar.{Cut}
-use Rattle.words.specs.SomeBelow.{none-below, some-below}
 use Rattle.words.specs.Entries.{field-window, place-within}
 use Rattle.answers.specs.Laws.{then-found, then-none}
-use Rattle.bitmaps.specs.Counts.{tally-some, tally-ext}
 use Rattle.runs.specs.Exact.{exact, accepted}
 use Rattle.packing.specs.Filled.{body-fits}
 use Rattle.runs.specs.Shown.{Shown, refuses, shown}
 use Rattle.runs.specs.Second.{judge, judge-comes, pass, pass-cut}
 use Rattle.runs.specs.Walks.{Comes, on-refused, on-repeated, on-packed}
 use Rattle.streams.specs.Covered.{written, covers}
-
--- ---- someBelow
-
--- tests that agree below n find alike
-some-ext : (n : ℕ) {f g : ℕ → Bool} → ((k : ℕ) → k < n → f k ≡ g k) → someBelow n f ≡ someBelow n g
-some-ext n {f} {g} h = tally-some n f ∙ ap (ltb 0) (tally-ext n h) ∙ sym (tally-some n g)
-
--- among n and then m more
-some-add : (n m : ℕ) (f : ℕ → Bool) → (someBelow n f || someBelow m (λ k. f (n + k))) ≡ someBelow (n + m) f
-unfolding someBelow
-some-add zero m f = some-ext m (λ k h. ap f (zero-add k)) ∙ ap (λ (k : ℕ). someBelow k f) (sym (zero-add m))
-some-add (suc n) m f =
-    or-assoc (f zero) (someBelow n (λ k. f (suc k))) (someBelow m (λ k. f (suc n + k)))
-    ∙ ap (λ (t : Bool). f zero || t)
-    (ap (λ (t : Bool). someBelow n (λ k. f (suc k)) || t) (some-ext m (λ k h. ap f (suc-add n k))) ∙ some-add n m (λ k. f (suc k)))
-    ∙ ap (λ (k : ℕ). someBelow k f) (sym (suc-add n m))
-
--- m times the same
-some-same : (m : ℕ) (t : Bool) → 0 < m → someBelow m (λ _. t) ≡ t
-some-same m true h = some-below m (λ _. true) 0 h refl
-some-same m false h = none-below m (λ _. false) (λ k l. refl)
+use Rattle.dictionary.specs.Some.{some-ext, some-add, some-same}
 
 -- ---- a pass
 

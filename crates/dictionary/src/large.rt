@@ -1,29 +1,21 @@
 // The run stream of an index page judged, and on the way whether an index is too large: not below the dictionary's count.
 ghost use mathlib.Core.Path.{_≡_};
-ghost use mathlib.Core.Bool.{_||_};
-ghost use Prim.Native.Nat.{_+_, _*_, _≤_};
-ghost use lib.Dec.{leb};
+ghost use mathlib.Core.Bool.{_&&_};
+ghost use Prim.Native.Nat.{_+_, _*_, _/_, _%_, _≤_};
+ghost use lib.Dec.{leb, ltb, eqb};
 ghost use lib.ListN.{length};
 ghost use Rattle.rules.specs.Bits.{ceil, field, someBelow};
 ghost use Rattle.rules.specs.Bits.Order.{lowFirst};
 ghost use Rattle.rules.specs.Answer.{faulty, _then_};
 ghost use Rattle.rules.specs.Runs.{read, streamFault, streamEntry};
+use crate::windows::either;
+use crate::windows::some_groups;
 use bitmaps::counted;
 use compare::ranges::range_to;
 use rules::Run;
 use runs::reading::run_at;
 use selection::pages::select;
 use words::counts::below;
-
-// Was one found before, or is one found now.
-fn either(before: bool, here: bool) -> bool
-    ensures { λ r. ⌜ r ≡ (before || here) ⌝ }
-{
-    if before {
-        return true;
-    }
-    here
-}
 
 // 15, where one was found.
 fn large_fault(large: bool) -> u32
@@ -35,8 +27,25 @@ fn large_fault(large: bool) -> u32
     0
 }
 
-// Is one of the first m indexes too large, of the packed run whose body begins at byte `start`. None is unpacked: those too large are marked, and counted.
-fn some_packed(
+// Do windows that end within the page hold m indexes, of which whole groups, of at most sixteen bits, can be held: `rest` bytes of the page begin with them.
+fn in_windows(rest: usize, w: usize, m: usize) -> bool
+    requires { ⌜ m ≤ 16384 ⌝ }
+    ensures { λ r. ⌜ r ≡ (ltb 0 w && leb w 16 && eqb (m % 8) 0 && leb (m / 8 * w + 8) rest) ⌝ }
+{
+    if w == 0 {
+        return false;
+    }
+    if 16 < w {
+        return false;
+    }
+    if m % 8 != 0 {
+        return false;
+    }
+    m / 8 * w + 8 <= rest
+}
+
+// Is one of the first m indexes too large, of a packed run whose body begins at byte `start`. None is unpacked: those too large are marked, and counted.
+fn some_marked(
     page: &[u8],
     start: usize,
     w: usize,
@@ -56,6 +65,24 @@ fn some_packed(
         marks,
     );
     0 < counted(marks, m).number
+}
+
+// The same, through windows where they hold the run.
+fn some_packed(
+    page: &[u8],
+    start: usize,
+    w: usize,
+    m: usize,
+    limit: usize,
+    marks: &mut [u8],
+) -> bool
+    requires { ⌜ (w ≤ 32) × (m ≤ 16384) × (limit ≤ 16384) × (start + ceil (m * w) 8 ≤ length (now page)) × (ceil m 8 ≤ length (now marks)) ⌝ }
+    ensures { λ r. ⌜ r ≡ someBelow m (λ k. leb limit (field lowFirst (now (page .entry)) (8 * start + k * w) w)) ⌝ }
+{
+    if in_windows(page.len() - start, w, m) {
+        return some_groups(page, start, w, m / 8, limit);
+    }
+    some_marked(page, start, w, m, limit, marks)
 }
 
 // The stream's first fault in reading order, and 15 for an index that is too large only where it has none. `marks` is lent to write on.

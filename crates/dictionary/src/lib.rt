@@ -7,3 +7,4 @@ pub mod reading;
 pub mod scanning;
 pub mod searching;
 pub mod values;
+pub mod windows;

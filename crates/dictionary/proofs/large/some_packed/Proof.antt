@@ -1,92 +1,54 @@
--- `dictionary::large::some_packed` meets its contract: those too large are the entries outside the range below the limit, and some are if one or more are counted.
-use mathlib.Core.Path.{_≡_, ap, _∙_}
-use mathlib.Core.Bool.{true}
-use Prim.Native.Nat.{ℕ, _-_, _*_, _≤_}
-use native.Mathlib.Nat.{mul-le-mul}
+-- `dictionary::large::some_packed` meets its contract: by windows where they hold the run, and else by marks.
+use mathlib.Core.Path.{_≡_, sym, ap, _∙_}
+use Prim.Native.Nat.{ℕ, _+_, _-_, _*_, _/_, _%_, _≤_, _<_}
 use native.Mathlib.Omega.{arith}
-use lib.Dec.{ltb}
-use lib.ListN.{take, drop}
+use lib.Dec.{leb}
+use lib.ListN.{length}
 use borrow.Author.Needs.{needs}
-use Rattle.rules.specs.Bits.{ceil, put}
-use Rattle.rules.specs.declared.Answer.{Answer}
-use Rattle.bitmaps.specs.Counts.{countOnes}
-use Rattle.compare.specs.Range.{ranged, rangeTo}
-use Rattle.compare.specs.Ranges.{to-whole}
-use Rattle.compare.specs.declared.ranges.Range.{Range}
-use Rattle.kernels.specs.Selected.{selected}
-use Rattle.dictionary.specs.Large.{some-selected}
+use Rattle.rules.specs.Bits.{field, someBelow}
+use Rattle.rules.specs.Bits.Order.{lowFirst}
+use Rattle.dictionary.specs.Windows.{windows-hold}
 use Rattle.dictionary.proofs.large.some_packed.Statement.{statement}
 use Rattle.dictionary.proofs.large.some_packed.Tie as tie
 
--- a run's entries take at most 65,536 bytes
-few-bits : (m w : ℕ) → m ≤ 16384 → w ≤ 32 → m * w ≤ 524288
-few-bits m w h k = mul-le-mul {n₁ = m} {m₁ = w} {n₂ = 16384} {m₂ = 32} h k
+sub-in-windows : tie.Need-sub-in-windows
+sub-in-windows c = search needs
 
-mul-below : tie.Need-mul-below
-mul-below c = let b = c .before .before in omega (arith, few-bits (b .args .m) (b .args .w) (search needs) (search needs))
+in-windows-requires : tie.Need-in-windows-requires
+in-windows-requires c κs = search needs
 
-add-below : tie.Need-add-below
-add-below c = let b = c .before .before in omega (arith, few-bits (b .args .m) (b .args .w) (search needs) (search needs))
+-- the run lies in windows
+held : (c : tie.Then1) → let a = c .before .before .before .before .args in
+    (0 < a .w) × (a .w ≤ 16) × (a .m % 8 ≡ 0) × (a .m / 8 * a .w + 8 ≤ length (a .page .now) - a .start)
+held c = windows-hold _ _ _ (sym (c .before .in-windows .ensures) ∙ c .if1 .taken)
 
-add-below-2 : tie.Need-add-below-2
-add-below-2 c = search needs
+some-groups-requires : tie.Need-some-groups-requires
+some-groups-requires c κs = let h = held c in (h .0, h .1, omega arith)
 
-add-below-3 : tie.Need-add-below-3
-add-below-3 c = search needs
+returns : tie.Need-returns
+returns c =
+    let a = c .before .before .before .before .before .args in
+    let h = held (c .before) in
+    let all : 8 * (a .m / 8) ≡ a .m = omega arith in
+    c .some-groups .ensures ∙ ap (λ (n : ℕ). someBelow n (λ k. leb (a .limit) (field lowFirst (a .page .now) (8 * a .start + k * a .w) (a .w)))) all
 
-below-requires : tie.Need-below-requires
-below-requires c κs = search needs
-
-sub-select : tie.Need-sub-select
-sub-select c = search needs
-
-part-select-start : tie.Need-part-select-start
-part-select-start c = search needs
-
-part-select-end : tie.Need-part-select-end
-part-select-end c = search needs
-
-range-to-requires : tie.Need-range-to-requires
-range-to-requires c κs = search needs
-
-select-requires : tie.Need-select-requires
-select-requires c κs =
-    let r = c .before in
-    let whole = to-whole 0 (r .before .before .before .before .before .args .limit) true (omega arith) in
-    (search needs, search needs, search needs, search needs, search needs, rw (r .range-to .ensures) (whole .fits), rw (r .range-to .ensures) (whole .flips))
-
-counted-requires : tie.Need-counted-requires
-counted-requires c κs = search needs
+some-marked-requires : tie.Need-some-marked-requires
+some-marked-requires c κs = search needs
 
 same-length : tie.Need-same-length
 same-length c = search needs
 
-returns : tie.Need-returns
-returns c =
-    let s = c .before .before .before .before .before in
-    let r = s .before .before in
-    let end = r .before .before .below .result in
-    let a = r .before .before .before .before .before .args in
-    let part = take (end - a .start) (drop (a .start) (a .page .now)) in
-    ap (λ (x : Answer). ltb 0 (x .number)) (c .before .counted .ensures)
-    ∙ ap (λ l. ltb 0 (countOnes (take (ceil (a .m) 8) l))) (s .select .ensures)
-    ∙ ap (λ (x : Range). ltb 0 (countOnes (take (ceil (a .m) 8) (put (a .marks .now) 0 (selected part (a .m) (a .w) (ranged x)))))) (r .range-to .ensures)
-    ∙ some-selected (a .marks .now) (a .page .now) (a .start) (end - a .start) (a .w) (a .m) (a .limit) (omega arith) (search needs)
+returns-2 : tie.Need-returns-2
+returns-2 c = search needs
 
 pub some-packed-spec : {M : Type 1} → statement M
 some-packed-spec =
     tie.close
     (tie.spec
-    mul-below
-    add-below
-    add-below-2
-    add-below-3
-    below-requires
-    sub-select
-    part-select-start
-    part-select-end
-    range-to-requires
-    select-requires
-    counted-requires
+    sub-in-windows
+    in-windows-requires
+    some-groups-requires
+    returns
+    some-marked-requires
     same-length
-    returns)
+    returns-2)
