@@ -1,16 +1,14 @@
 -- `dictionary::looking_up::look_up` meets its contract: each turn fills one place more.
-use mathlib.Core.Path.{_≡_, ap, ap₂, _∙_}
+use mathlib.Core.Path.{_≡_, ap₂, _∙_}
 use mathlib.Core.List.{List}
 use Prim.Native.Nat.{_-_, _≤_}
-use native.Mathlib.Nat.{mul-le-mul}
 use native.Mathlib.Omega.{arith}
 use lib.IntN.{ℤ}
-use lib.ListN.{length, length-set, set}
+use lib.ListN.{length, length-set, set, getD}
 use borrow.Author.Needs.{needs}
 use mir.Syntax.{w32}
 use mir.ValLaws.{toZ-ofZ}
-use Rattle.rules.specs.Bits.{entry, put, tabulate}
-use Rattle.rules.specs.Bits.Order.{lowFirst}
+use Rattle.rules.specs.Bits.{put, tabulate}
 use Rattle.rules.specs.Dictionary.{value}
 use Rattle.words.specs.Puts.{put-none}
 use Rattle.words.specs.Tabulated.{put-tabulate}
@@ -18,30 +16,27 @@ use Rattle.dictionary.proofs.looking_up.look_up.Statement.{statement}
 use Rattle.dictionary.proofs.looking_up.look_up.Tie as tie
 
 abbrev Inv-loop : tie.InvT-loop
-Inv-loop dict body w m places₀ i₀ places i =
-    (i ≤ m) × (length places ≡ length places₀) × (places ≡ put places₀ 0 (tabulate i (λ k. value dict (entry lowFirst body w k))))
+Inv-loop dict indexes m places₀ i₀ places i =
+    (i ≤ m) × (length places ≡ length places₀) × (places ≡ put places₀ 0 (tabulate i (λ k. value dict (getD indexes k 0))))
 
 abbrev μ-loop : tie.MeasureT-loop
-μ-loop dict body w m places₀ i₀ places i = m - i
+μ-loop dict indexes m places₀ i₀ places i = m - i
 
 loop-holds : tie.Need-loop-holds Inv-loop μ-loop
 unfolding tabulate
 loop-holds c = (omega arith, omega arith, put-none (c .before .before .args .places .now) 0)
 
-mul-entry-any : tie.Need-mul-entry-any Inv-loop μ-loop
-mul-entry-any c =
-    let a = c .before .before .before .before .args in
-    let l = c .before .loop in
-    omega (arith, mul-le-mul {n₁ = l .i} {m₁ = a .w} {n₂ = 16384} {m₂ = 32} (omega arith) (omega arith))
+mul-value-any : tie.Need-mul-value-any Inv-loop μ-loop
+mul-value-any c = search needs
 
-entry-any-requires : tie.Need-entry-any-requires Inv-loop μ-loop
-entry-any-requires c κs = search needs
+shared-slice-read-value-any : tie.Need-shared-slice-read-value-any Inv-loop μ-loop
+shared-slice-read-value-any c = search needs
 
 value-any-requires : tie.Need-value-any-requires Inv-loop μ-loop
 value-any-requires c κs = search needs
 
-mul-t12 : tie.Need-mul-t12 Inv-loop μ-loop
-mul-t12 c = search needs
+mul-t11 : tie.Need-mul-t11 Inv-loop μ-loop
+mul-t11 c = search needs
 
 slice-set-from-places : tie.Need-slice-set-from-places Inv-loop μ-loop
 slice-set-from-places c = search needs
@@ -57,11 +52,11 @@ loop-again c =
     let l = c .before .before .before .loop in
     let a = c .before .before .before .before .before .before .args in
     let v = c .value-any in
-    let looked = toZ-ofZ w32 (v .result) (record { sfits = v .ok }) ∙ v .ensures ∙ ap (value (a .dict .now)) (c .before .entry-any .ensures) in (
+    let looked = toZ-ofZ w32 (v .result) (record { sfits = v .ok }) ∙ v .ensures in (
       omega arith,
       simp length-set (l .inv .1),
       ap₂ (λ (o : List ℤ) (x : ℤ). set o (l .i) x) (l .inv .2) looked
-          ∙ put-tabulate (a .places .now) (l .i) (λ k. value (a .dict .now) (entry lowFirst (a .body .now) (a .w) k)) (omega arith),
+          ∙ put-tabulate (a .places .now) (l .i) (λ k. value (a .dict .now) (getD (a .indexes .now) k 0)) (omega arith),
     )
 
 same-length : tie.Need-same-length Inv-loop μ-loop
@@ -79,10 +74,10 @@ look-up-spec =
     Inv-loop
     μ-loop
     loop-holds
-    mul-entry-any
-    entry-any-requires
+    mul-value-any
+    shared-slice-read-value-any
     value-any-requires
-    mul-t12
+    mul-t11
     slice-set-from-places
     add-i
     loop-less
