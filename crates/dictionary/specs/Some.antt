@@ -1,8 +1,8 @@
 -- More laws of `someBelow`: of tests that agree, of one range behind another, and of the word that tests make.
 use mathlib.Core.Path.{_≡_, refl, sym, ap, ap₂, _∙_}
-use mathlib.Core.Bool.{Bool, true, false, _||_, or-assoc}
+use mathlib.Core.Bool.{Bool, true, false, _||_, or-assoc, or-false}
 use Prim.Native.Nat.{ℕ, zero, suc, _+_, _*_, _<_}
-use native.Mathlib.Nat.{zero-add, suc-add, zero-mul, suc-mul}
+use native.Mathlib.Nat.{zero-add, add-zero, suc-add, zero-mul, suc-mul}
 use native.Mathlib.Omega.{arith}
 use lib.Dec.{ltb}
 use borrow.Author.Tests.{lt-ltb}
@@ -24,6 +24,11 @@ some-add (suc n) m f =
     ∙ ap (λ (t : Bool). f zero || t)
     (ap (λ (t : Bool). someBelow n (λ k. f (suc k)) || t) (some-ext m (λ k h. ap f (suc-add n k))) ∙ some-add n m (λ k. f (suc k)))
     ∙ ap (λ (k : ℕ). someBelow k f) (sym (suc-add n m))
+
+-- and one more
+pub some-next : (n : ℕ) (f : ℕ → Bool) → (someBelow n f || f n) ≡ someBelow (n + 1) f
+unfolding someBelow
+some-next n f = ap (λ (t : Bool). someBelow n f || t) (ap f (sym (add-zero n)) ∙ sym (or-false (f (n + 0)))) ∙ some-add n 1 f
 
 -- m times the same
 pub some-same : (m : ℕ) (t : Bool) → 0 < m → someBelow m (λ _. t) ≡ t

@@ -3,6 +3,7 @@ ghost use mathlib.Core.Path.{_≡_};
 ghost use Prim.Native.Nat.{_≤_};
 ghost use Rattle.rules.specs.Answer.{_then_, roomFault};
 ghost use Rattle.rules.specs.Dictionary as Dictionary;
+use crate::finding::either;
 use crate::indexes::page_fault;
 use crate::values::value_at;
 use answers::room_fault;
@@ -12,14 +13,13 @@ fn unordered(dict: &[u8]) -> bool
     ensures { λ r. ⌜ r ≡ Dictionary.unordered (now (dict .entry)) ⌝ }
 {
     let count = dict.len() / 4;
+    let mut found = false;
     let mut k: usize = 0;
     while k + 1 < count {
-        if value_at(dict, k + 1) <= value_at(dict, k) {
-            return true;
-        }
+        found = either(found, value_at(dict, k + 1) <= value_at(dict, k));
         k += 1;
     }
-    false
+    found
 }
 
 // 14, where the length is no multiple of 4 or over 65,536 bytes, before any value is read, or the values do not ascend.

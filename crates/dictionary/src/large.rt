@@ -8,7 +8,7 @@ ghost use Rattle.rules.specs.Bits.{ceil, field, someBelow};
 ghost use Rattle.rules.specs.Bits.Order.{lowFirst};
 ghost use Rattle.rules.specs.Answer.{faulty, _then_};
 ghost use Rattle.rules.specs.Runs.{read, streamFault, streamEntry};
-use crate::windows::either;
+use crate::finding::either;
 use crate::windows::some_groups;
 use bitmaps::counted;
 use compare::ranges::range_to;
@@ -27,7 +27,7 @@ fn large_fault(large: bool) -> u32
     0
 }
 
-// Do windows that end within the page hold m indexes, of which whole groups, of at most sixteen bits, can be held: `rest` bytes of the page begin with them.
+// Do windows of eight bytes within the page's last `rest` bytes, which begin with m indexes, hold all of them: whole groups, of at most sixteen bits.
 fn in_windows(rest: usize, w: usize, m: usize) -> bool
     requires { ⌜ m ≤ 16384 ⌝ }
     ensures { λ r. ⌜ r ≡ (ltb 0 w && leb w 16 && eqb (m % 8) 0 && leb (m / 8 * w + 8) rest) ⌝ }

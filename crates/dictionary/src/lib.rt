@@ -1,4 +1,5 @@
 // Dictionary columns: scan, unpack.
+pub mod finding;
 pub mod indexes;
 pub mod judging;
 pub mod large;

@@ -1,6 +1,5 @@
 // Whole groups of packed indexes looked at where they lie, as many at once as a window of eight bytes holds: is one too large.
 ghost use mathlib.Core.Path.{_≡_};
-ghost use mathlib.Core.Bool.{_||_};
 ghost use Prim.Native.Nat.{_+_, _*_, _≤_, _<_};
 ghost use lib.Dec.{leb};
 ghost use lib.ListN.{length};
@@ -8,20 +7,11 @@ ghost use Rattle.rules.specs.Bits.{field, someBelow};
 ghost use Rattle.rules.specs.Bits.Order.{lowFirst};
 ghost use Rattle.kernels.specs.Lanes.{lanes};
 ghost use Rattle.kernels.specs.Marks.{tested};
+use crate::finding::either;
 use kernels::marks::marks;
 use kernels::marks::ones_four;
 use kernels::marks::ones_two;
 use words::loads::load8;
-
-// Was one found before, or is one found now.
-pub fn either(before: bool, here: bool) -> bool
-    ensures { λ r. ⌜ r ≡ (before || here) ⌝ }
-{
-    if before {
-        return true;
-    }
-    here
-}
 
 // The 2 * n numbers of w bits in a word.
 fn some_in(x: u64, n: usize, ones: u64, w: usize, limit: usize) -> bool
