@@ -3,7 +3,7 @@ use mathlib.Core.Path.{_≡_, refl, sym, ap, ap₂, _∙_}
 use mathlib.Core.Bool.{Bool, true, false}
 use mathlib.Core.List.{List, [], _∷_, _++_}
 use Prim.Native.Nat.{ℕ, zero, suc, _+_, _-_, _*_, _/_, _%_, _≤_, _<_, min}
-use native.Mathlib.Nat.{add-mul, mul-assoc, zero-mul, mul-le-mul, mul-le-mul-right, div-add-mod', mod-lt}
+use native.Mathlib.Nat.{add-mul, mul-assoc, zero-mul, mul-le-mul-right, div-add-mod', mod-lt}
 use native.Mathlib.Omega.{arith}
 use lib.Dec.{ltb, leb}
 use lib.ListN.{length, take, drop, getD, replicate, List·getD-append, List·getD-eq-default}
@@ -99,9 +99,6 @@ module _ (n w q len : ℕ) (eq : q ≡ ceil n 8) (all : ceil (n * w) 8 ≤ len) 
     where
       down : 8 * q ≤ n + 7
       down = omega arith
-
-  pub page-small : n ≤ 16384 → w ≤ 32 → len ≤ 65544
-  page-small h k = omega (arith, mul-le-mul {n₁ = n} {m₁ = w} {n₂ = 16384} {m₂ = 32} h k)
 
   -- what the last groups need
   pub tail-small : (m : ℕ) → w ≤ 32 → m ≤ q → len ≤ m * w + w + 8 → (q - m) * w ≤ 72

@@ -11,9 +11,20 @@ use compare::ranges::Range;
 use widths::select_groups;
 use words::counts::below;
 
+// How many groups, of q, have windows that end within `len` bytes. Where all have, nothing is divided.
+fn groups_within(len: usize, w: usize, q: usize) -> usize
+    requires { ⌜ (0 < w) × (w ≤ 32) × (q ≤ 2048) × (8 ≤ len) × (len ≤ q * w + 8) ⌝ }
+    ensures { λ r. ⌜ (r * w + 8 ≤ len) × (len ≤ r * w + w + 8) × (r ≤ q) ⌝ }
+{
+    if q * w + 8 <= len {
+        return q;
+    }
+    below((len - 8) / w, q)
+}
+
 // The groups, of q, whose windows end within the page: how many they are.
 fn front(page: &[u8], bitmap: &mut [u8], q: usize, w: usize, low: u32, span: u32, flip: u8) -> usize
-    requires { ⌜ (w ≤ 32) × (length (now page) ≤ 65544) × (length (now page) ≤ q * w + 8) × (q ≤ length (now bitmap)) × (low + span < 4294967296) × (flip % 255 ≡ 0) ⌝ }
+    requires { ⌜ (w ≤ 32) × (q ≤ 2048) × (length (now page) ≤ q * w + 8) × (q ≤ length (now bitmap)) × (low + span < 4294967296) × (flip % 255 ≡ 0) ⌝ }
     ensures within { λ r. ⌜ (r * w ≤ length (now (page .entry))) × (length (now (page .entry)) ≤ r * w + w + 8) × (r ≤ q) ⌝ }
     ensures written { λ r. ⌜ now (bitmap .exit) ≡ put (now (bitmap .entry)) 0 (selected (now (page .entry)) (8 * r) w (ranging low span flip)) ⌝ }
 {
@@ -23,13 +34,13 @@ fn front(page: &[u8], bitmap: &mut [u8], q: usize, w: usize, low: u32, span: u32
     if page.len() < 8 {
         return 0;
     }
-    let m = below((page.len() - 8) / w, q);
+    let m = groups_within(page.len(), w, q);
     select_groups(page, bitmap, m, w, low, span, flip);
     m
 }
 
 // Copies the page from byte a on.
-fn copy(page: &[u8], a: usize, rest: &mut [u8])
+pub fn copy(page: &[u8], a: usize, rest: &mut [u8])
     requires { ⌜ (a ≤ length (now page)) × (length (now page) ≤ a + length (now rest)) ⌝ }
     ensures { λ _. ⌜ now (rest .exit) ≡ put (now (rest .entry)) 0 (drop a (now (page .entry))) ⌝ }
 {

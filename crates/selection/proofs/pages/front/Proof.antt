@@ -1,11 +1,10 @@
--- `selection::pages::front` meets its contract: a quotient's groups end eight bytes before the page's end.
+-- `selection::pages::front` meets its contract: the windows of the groups it compares end within the page.
 use mathlib.Core.Path.{ap}
-use Prim.Native.Nat.{_+_, _*_}
+use Prim.Native.Nat.{_*_}
 use native.Mathlib.Omega.{arith}
-use lib.ListN.{length}
 use borrow.Author.Needs.{needs}
 use Rattle.kernels.specs.Selected.{ranging}
-use Rattle.selection.specs.Pages.{none-front, front-size}
+use Rattle.selection.specs.Pages.{none-front}
 use Rattle.selection.proofs.pages.front.Statement.{statement}
 use Rattle.selection.proofs.pages.front.Tie as tie
 
@@ -20,27 +19,17 @@ returns-2 c =
     let a = c .before .before .before .before .args in
     none-front (a .bitmap .now) (a .page .now) (a .w) (ranging (a .low) (a .span) (a .flip)) (a .q) (omega arith)
 
-sub-below : tie.Need-sub-below
-sub-below c = search needs
-
-div-below : tie.Need-div-below
-div-below c = search needs
-
-below-requires : tie.Need-below-requires
-below-requires c κs = search needs
+groups-within-requires : tie.Need-groups-within-requires
+groups-within-requires c κs = omega arith
 
 select-groups-requires : tie.Need-select-groups-requires
-select-groups-requires c κs =
-    let a = c .before .before .before .before .before .before .args in
-    rw (c .before .below .ensures) (omega (arith, front-size (length (a .page .now)) (a .w) (a .q) (omega arith) (omega arith) (omega arith)))
+select-groups-requires c κs = omega (arith, c .before .groups-within .ensures)
 
 same-length : tie.Need-same-length
 same-length c = search needs
 
 returns-3 : tie.Need-returns-3
-returns-3 c =
-    let a = c .before .before .before .before .before .before .before .before .before .args in
-    (rw (c .before .before .before .before .below .ensures) (omega (arith, front-size (length (a .page .now)) (a .w) (a .q) (omega arith) (omega arith) (omega arith))), cc)
+returns-3 c = (omega (arith, c .before .before .before .before .groups-within .ensures), cc)
 
 pub front-spec : {M : Type 1} → statement M
 front-spec =
@@ -48,9 +37,7 @@ front-spec =
     (tie.spec
     returns
     returns-2
-    sub-below
-    div-below
-    below-requires
+    groups-within-requires
     select-groups-requires
     same-length
     returns-3)

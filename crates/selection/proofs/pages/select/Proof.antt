@@ -6,7 +6,7 @@ use lib.ListN.{length, take, drop, length-drop}
 use borrow.Author.Needs.{needs}
 use Rattle.words.specs.Puts.{part-rest}
 use Rattle.compare.specs.Range.{ranged}
-use Rattle.selection.specs.Pages.{page-le, page-small, tail-small, all-selected}
+use Rattle.selection.specs.Pages.{page-le, tail-small, all-selected}
 use Rattle.selection.proofs.pages.select.Statement.{statement}
 use Rattle.selection.proofs.pages.select.Tie as tie
 
@@ -19,7 +19,7 @@ front-requires c κs =
     let a = s .args in
     let q = (a .n + 7) / 8 in
     let len = length (a .page .now) in
-    omega (arith, page-le (a .n) (a .w) q len refl (s .pre .2) (s .pre .3), page-small (a .n) (a .w) q len refl (s .pre .2) (s .pre .3) (omega arith) (omega arith))
+    omega (arith, page-le (a .n) (a .w) q len refl (s .pre .2) (s .pre .3))
 
 mul-tail : tie.Need-mul-tail
 mul-tail c = search needs
