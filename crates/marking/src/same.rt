@@ -1,4 +1,4 @@
-// Entries that are all selected, or none of them: the byte where they begin, whole bytes, the last byte.
+// Entries that are all selected, or none of them: a few at once, or the byte where they begin, whole bytes, the last byte.
 ghost use mathlib.Core.Path.{_≡_};
 ghost use Prim.Native.Nat.{_+_, _*_, _≤_, _<_};
 ghost use lib.ListN.{length};
@@ -56,11 +56,11 @@ pub fn mark_same(bitmap: &mut [u8], p: usize, m: usize, selected: bool)
     requires { ⌜ (0 < m) × (p ≤ 16384) × (m ≤ 16384) × (p + m ≤ 8 * length (now bitmap)) ⌝ }
     ensures { λ _. ⌜ now (bitmap .exit) ≡ appended (now (bitmap .entry)) p (word m (λ _. selected)) m ⌝ }
 {
-    let first = 8 - p % 8;
-    if m <= first {
+    if m <= 56 {
         mark_few(bitmap, p, m, selected);
         return;
     }
+    let first = 8 - p % 8;
     mark_few(bitmap, p, first, selected);
     mark_bytes(bitmap, p / 8 + 1, m - first, selected);
 }

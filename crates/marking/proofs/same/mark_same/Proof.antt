@@ -1,13 +1,10 @@
--- `marking::same::mark_same` meets its contract: the entries up to the next byte, and the others behind them.
+-- `marking::same::mark_same` meets its contract: all at once where they are few, else the entries up to the next byte, and the others behind them.
 use Prim.Native.Nat.{_+_, _-_, _*_, _/_, _%_}
 use native.Mathlib.Omega.{arith}
 use Rattle.marking.specs.Behind.{words-twice}
 use borrow.Author.Needs.{needs}
 use Rattle.marking.proofs.same.mark_same.Statement.{statement}
 use Rattle.marking.proofs.same.mark_same.Tie as tie
-
-sub-first : tie.Need-sub-first
-sub-first c = search needs
 
 mark-few-requires : tie.Need-mark-few-requires
 mark-few-requires c κs = search needs
@@ -17,6 +14,9 @@ same-length c = search needs
 
 returns : tie.Need-returns
 returns c = search needs
+
+sub-first : tie.Need-sub-first
+sub-first c = search needs
 
 mark-few-requires-2 : tie.Need-mark-few-requires-2
 mark-few-requires-2 c κs = search needs
@@ -44,10 +44,10 @@ pub mark-same-spec : {M : Type 1} → statement M
 mark-same-spec =
     tie.close
     (tie.spec
-    sub-first
     mark-few-requires
     same-length
     returns
+    sub-first
     mark-few-requires-2
     add-mark-bytes
     sub-mark-bytes
