@@ -7,7 +7,7 @@ use native.Mathlib.Omega.{arith}
 use lib.ListN.{length}
 use Rattle.rules.specs.Bits.{entry, field, put, tabulate}
 use Rattle.rules.specs.Bits.Order.{lowFirst}
-use Rattle.words.specs.Puts.{put-longer}
+use Rattle.words.specs.Puts.{put-over}
 use Rattle.words.specs.Tabulated.{length-tabulate, tabulate-ext, put-tabulate-add}
 
 -- group g, from byte g × w on, behind those in place
@@ -31,18 +31,13 @@ fewer-groups len (suc k) q h far =
 
 -- ---- groups first, and then the other entries
 
--- a list in place of a shorter one
-put-over : (l a b : List ℕ) → length a ≤ length b → put (put l 0 a) 0 b ≡ put l 0 b
-unfolding put
-put-over l a b h = put-longer l a b 0 h
-
 -- where m entries are in place, to put them there changes nothing
 pub in-place : (l : List ℕ) (m : ℕ) (f : ℕ → ℕ) {l₁ : List ℕ} → l₁ ≡ put l 0 (tabulate m f) → l₁ ≡ put l₁ 0 (tabulate m f)
 in-place l m f e =
     let v : List ℕ = tabulate m f in
-    e ∙ sym (ap (λ (k : List ℕ). put k 0 v) e ∙ put-over l v v (omega arith))
+    e ∙ sym (ap (λ (k : List ℕ). put k 0 v) e ∙ put-over l v v 0 (omega arith) (omega arith))
 
 -- and n over them are n in place
 pub further-in-place : (l : List ℕ) (m n : ℕ) (f : ℕ → ℕ) {l₁ l₂ : List ℕ} → m ≤ n → l₁ ≡ put l 0 (tabulate m f) → l₂ ≡ put l₁ 0 (tabulate n f) → l₂ ≡ put l 0 (tabulate n f)
 further-in-place l m n f h first second =
-    second ∙ ap (λ (k : List ℕ). put k 0 (tabulate n f)) first ∙ put-over l (tabulate m f) (tabulate n f) (omega (arith, length-tabulate m f, length-tabulate n f))
+    second ∙ ap (λ (k : List ℕ). put k 0 (tabulate n f)) first ∙ put-over l (tabulate m f) (tabulate n f) 0 (omega arith) (omega (arith, length-tabulate m f, length-tabulate n f))

@@ -10,7 +10,7 @@ use lib.Pow.{pow-add, pow-mono}
 use lib.ListN.{length, take, drop, getD, set, length-drop, drop-of-length-le}
 use lib.Seq.{take-add, drop-drop, drop-cons, length-take-le}
 use Rattle.rules.specs.Bits.{joined, number, bytes, put}
-use Rattle.words.specs.Puts.{put-put, put-snoc}
+use Rattle.words.specs.Puts.{put-put, put-end, put-snoc}
 
 -- the number of some bytes, and then of more behind them
 pub number-append : (a b : List ℕ) → number (a ++ b) ≡ number a + number b * 256 ^ length a
@@ -106,3 +106,18 @@ unfolding bytes
 put-next l at k x h =
     let size : length (bytes k x) ≡ k = length-bytes k x in
     put-snoc l (bytes k x) at (at + k) (x / 256 ^ k % 256) (omega arith) h ∙ ap (put l at) (sym (bytes-add k 1 x))
+
+-- n bytes as the first k of them and the last k, which may overlap
+pub put-ends : (l : List ℕ) (at k n x : ℕ) → k ≤ n → n ≤ k + k → at + n ≤ length l
+    → put (put l at (bytes k (x % 256 ^ k))) (at + (n - k)) (bytes k (x / 2 ^ (8 * (n - k)) % 256 ^ k)) ≡ put l at (bytes n x)
+put-ends l at k n x few many h =
+    let j : ℕ = n - k in
+    let front : List ℕ = bytes j x in
+    let end : List ℕ = bytes k (x / 256 ^ j) in
+    let over : List ℕ = bytes (k - j) (x / 256 ^ j) in
+    let size : length front ≡ j = length-bytes j x in
+    let first : bytes k x ≡ front ++ over = let e : k ≡ j + (k - j) = omega arith in ap (λ (i : ℕ). bytes i x) e ∙ bytes-add j (k - j) x in
+    let all : bytes n x ≡ front ++ end = let e : n ≡ j + k = omega arith in ap (λ (i : ℕ). bytes i x) e ∙ bytes-add j k x in
+    let long : length end ≡ k = length-bytes k (x / 256 ^ j) in
+    let short : length over ≡ k - j = length-bytes (k - j) (x / 256 ^ j) in
+    rw (bytes-mod k x, bytes-mod k (x / 2 ^ (8 * j)), ← (pow-256 j), first, all) (put-end l front over end at (at + j) (omega arith) (omega arith) (omega arith))

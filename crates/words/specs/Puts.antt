@@ -103,3 +103,23 @@ module _ {A : Type 0} where
   split-put l u v a h =
       let e : 0 + length (u ++ v) ≡ a + length v = omega (arith, length-append u v) in
       rw e (append-assoc u v (drop (a + length v) l))
+
+  -- a list in place of a shorter one
+  over-front : (l a b : List A) → length a ≤ length b → put (put l 0 a) 0 b ≡ put l 0 b
+  unfolding put
+  over-front l a b few = put-longer l a b 0 few
+
+  pub put-over : (l a b : List A) (p : ℕ) → p ≤ length l → length a ≤ length b → put (put l p a) p b ≡ put l p b
+  put-over l a b p h few =
+      let front : length (take p l) ≡ p = length-take-le p l h in
+      let rest : List A = put (drop p l) 0 a in
+      sym (put-part (put l p a) b p) ∙ ap (λ (k : List A). take p k ++ put (drop p k) 0 b) (sym (put-part l a p))
+      ∙ rw (take-at (take p l) rest p front, drop-at (take p l) rest p front, over-front (drop p l) a b few) (put-part l b p)
+
+  -- or over its end, and past it
+  pub put-end : (l u v w : List A) (at i : ℕ) → i ≡ at + length u → i + length w ≤ length l → length v ≤ length w → put (put l at (u ++ v)) i w ≡ put l at (u ++ w)
+  put-end l u v w at i e h few =
+      ap (λ (k : ℕ). put (put l at (u ++ v)) k w) e
+      ∙ ap (λ (k : List A). put k (at + length u) w) (sym (put-put l u v at (omega arith)))
+      ∙ put-over (put l at u) v w (at + length u) (omega (arith, length-put l at u (omega arith))) few
+      ∙ put-put l u w at (omega arith)

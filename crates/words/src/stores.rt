@@ -28,8 +28,28 @@ pub fn store8(s: &mut [u8], at: usize, x: u64)
     store4(s, at + 4, (x / 4294967296) as u32);
 }
 
-// The n low bytes of x.
-pub fn store_low(s: &mut [u8], at: usize, x: u64, n: usize)
+// The n low bytes of x as the first two of them and the last two, which may be the same.
+fn store_twos(s: &mut [u8], at: usize, x: u64, n: usize)
+    requires { ⌜ (2 ≤ n) × (n ≤ 4) × (at + n ≤ length (now s)) ⌝ }
+    ensures { λ _. ⌜ now (s .exit) ≡ put (now (s .entry)) at (bytes n x) ⌝ }
+{
+    let last = n - 2;
+    store2(s, at, (x % 65536) as u16);
+    store2(s, at + last, ((x >> (8 * last)) % 65536) as u16);
+}
+
+// The same with four.
+fn store_fours(s: &mut [u8], at: usize, x: u64, n: usize)
+    requires { ⌜ (4 ≤ n) × (n ≤ 8) × (at + n ≤ length (now s)) ⌝ }
+    ensures { λ _. ⌜ now (s .exit) ≡ put (now (s .entry)) at (bytes n x) ⌝ }
+{
+    let last = n - 4;
+    store4(s, at, (x % 4294967296) as u32);
+    store4(s, at + last, ((x >> (8 * last)) % 4294967296) as u32);
+}
+
+// The n low bytes of x one by one.
+fn store_each(s: &mut [u8], at: usize, x: u64, n: usize)
     requires { ⌜ at + n ≤ length (now s) ⌝ }
     ensures { λ _. ⌜ now (s .exit) ≡ put (now (s .entry)) at (bytes n x) ⌝ }
 {
@@ -39,5 +59,27 @@ pub fn store_low(s: &mut [u8], at: usize, x: u64, n: usize)
         s[at + k] = (v % 256) as u8;
         v = v / 256;
         k += 1;
+    }
+}
+
+// The n low bytes of x, without a loop where they are at most 8.
+pub fn store_low(s: &mut [u8], at: usize, x: u64, n: usize)
+    requires { ⌜ at + n ≤ length (now s) ⌝ }
+    ensures { λ _. ⌜ now (s .exit) ≡ put (now (s .entry)) at (bytes n x) ⌝ }
+{
+    if 8 < n {
+        store_each(s, at, x, n);
+        return;
+    }
+    if 4 <= n {
+        store_fours(s, at, x, n);
+        return;
+    }
+    if 2 <= n {
+        store_twos(s, at, x, n);
+        return;
+    }
+    if n == 1 {
+        s[at] = (x % 256) as u8;
     }
 }

@@ -1,72 +1,76 @@
--- `words::stores::store_low` meets its contract: each turn stores one byte more.
-use mathlib.Core.Path.{_≡_, sym, ap, _∙_}
-use Prim.Native.Nat.{ℕ, _+_, _-_, _/_, _^_, _≤_}
-use native.Mathlib.Nat.{div-one, div-div-eq-div-mul, pow-suc}
-use native.Mathlib.Numerals.{add-one}
+-- `words::stores::store_low` meets its contract: bytes one by one, by fours or by twos, or one, or none.
+use mathlib.Core.Path.{_≡_}
 use native.Mathlib.Omega.{arith}
-use lib.ListN.{length, length-set}
-use Rattle.rules.specs.Bits.{bytes, put}
-use Rattle.words.specs.Bytes.{put-next}
-use Rattle.words.specs.Puts.{put-none}
+use borrow.Author.Needs.{needs}
+use Rattle.rules.specs.Bits.{bytes}
+use Rattle.words.specs.Puts.{put-none, set-put}
 use Rattle.words.proofs.stores.store_low.Statement.{statement}
 use Rattle.words.proofs.stores.store_low.Tie as tie
 
-abbrev Inv-loop : tie.InvT-loop
-Inv-loop s₀ at x n v₀ k₀ s v k = (k ≤ n) × (length s ≡ length s₀) × (v ≡ x / 256 ^ k) × (s ≡ put s₀ at (bytes k x))
+store-each-requires : tie.Need-store-each-requires
+store-each-requires c κs = search needs
 
-abbrev μ-loop : tie.MeasureT-loop
-μ-loop s₀ at x n v₀ k₀ s v k = n - k
+same-length : tie.Need-same-length
+same-length c = search needs
 
-loop-holds : tie.Need-loop-holds Inv-loop μ-loop
+returns : tie.Need-returns
+returns c = search needs
+
+store-fours-requires : tie.Need-store-fours-requires
+store-fours-requires c κs = search needs
+
+same-length-2 : tie.Need-same-length-2
+same-length-2 c = search needs
+
+returns-2 : tie.Need-returns-2
+returns-2 c = search needs
+
+store-twos-requires : tie.Need-store-twos-requires
+store-twos-requires c κs = search needs
+
+same-length-3 : tie.Need-same-length-3
+same-length-3 c = search needs
+
+returns-3 : tie.Need-returns-3
+returns-3 c = search needs
+
+cast-s : tie.Need-cast-s
+cast-s c = search needs
+
+slice-write-s : tie.Need-slice-write-s
+slice-write-s c = search needs
+
+same-length-4 : tie.Need-same-length-4
+same-length-4 c = search needs
+
+returns-4 : tie.Need-returns-4
 unfolding bytes
-loop-holds c =
-    (omega arith, omega arith, sym (div-one (c .args .x)), put-none (c .args .s .now) (c .args .at))
+returns-4 c =
+    let a = c .before .before .before .before .before .args in
+    rw (c .if4 .taken) (set-put (a .s .now) (a .at) _ (omega arith))
 
-cast-s : tie.Need-cast-s Inv-loop μ-loop
-cast-s c = omega arith
-
-add-s : tie.Need-add-s Inv-loop μ-loop
-add-s c = omega arith
-
-slice-write-s : tie.Need-slice-write-s Inv-loop μ-loop
-slice-write-s c = omega arith
-
-add-k : tie.Need-add-k Inv-loop μ-loop
-add-k c = omega arith
-
-loop-less : tie.Need-loop-less Inv-loop μ-loop
-loop-less c = omega arith
-
-loop-again : tie.Need-loop-again Inv-loop μ-loop
-loop-again c =
-    let l = c .before .loop in
-    let a = c .before .before .args in (
-      omega arith,
-      simp length-set (l .inv .1),
-      rw (l .inv .2, add-one, pow-suc) (div-div-eq-div-mul (a .x) (256 ^ l .k) 256),
-      rw (l .inv .3, l .inv .2) (put-next (a .s .now) (a .at) (l .k) (a .x) (omega arith)),
-    )
-
-same-length : tie.Need-same-length Inv-loop μ-loop
-same-length c = omega arith
-
-returns : tie.Need-returns Inv-loop μ-loop
-returns c =
-    let all : c .before .loop .k ≡ c .before .before .args .n = omega arith in
-    rw (← all) (c .before .loop .inv .3)
+returns-5 : tie.Need-returns-5
+unfolding bytes
+returns-5 c =
+    let a = c .before .before .before .before .before .args in
+    let none : a .n ≡ 0 = omega arith in
+    rw none (put-none (a .s .now) (a .at))
 
 pub store-low-spec : {M : Type 1} → statement M
 store-low-spec =
     tie.close
     (tie.spec
-    Inv-loop
-    μ-loop
-    loop-holds
-    cast-s
-    add-s
-    slice-write-s
-    add-k
-    loop-less
-    loop-again
+    store-each-requires
     same-length
-    returns)
+    returns
+    store-fours-requires
+    same-length-2
+    returns-2
+    store-twos-requires
+    same-length-3
+    returns-3
+    cast-s
+    slice-write-s
+    same-length-4
+    returns-4
+    returns-5)
