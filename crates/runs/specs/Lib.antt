@@ -1,4 +1,5 @@
 pub mod Parts
+pub mod Bodies
 pub mod Shown
 pub mod Turns
 pub mod Complete

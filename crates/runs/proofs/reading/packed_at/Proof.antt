@@ -1,42 +1,49 @@
--- `runs::reading::packed_at` meets its contract: its tests are those of the rule, on the length of the page's rest.
-use Prim.Native.Nat.{_+_, _*_}
+-- `runs::reading::packed_at` meets its contract: its fault is that of the rule, on the length of the page's rest.
+use mathlib.Core.Bool.{true}
+use Prim.Native.Nat.{_+_, _*_, _≤_}
 use native.Mathlib.Nat.{mul-le-mul-right}
 use native.Mathlib.Omega.{arith}
+use lib.Dec.{ltb}
 use lib.ListN.{length}
 use borrow.Author.Needs.{needs}
-use borrow.Author.Tests.{lt-ltb, le-ltb}
+use borrow.Author.Tests.{ltb-false}
 use Rattle.rules.specs.Runs.{packedAt}
 use Rattle.runs.specs.Parts.{part-size}
+use Rattle.runs.specs.Bodies.{faulty-body, good-body, passed}
 use Rattle.runs.proofs.reading.packed_at.Statement.{statement}
 use Rattle.runs.proofs.reading.packed_at.Tie as tie
 
-add-if1 : tie.Need-add-if1
-add-if1 c = search needs
+packed-fault-requires : tie.Need-packed-fault-requires
+packed-fault-requires c κs = search needs
 
 returns : tie.Need-returns
 unfolding packedAt
-returns c page e = rw (lt-ltb (c .before .args .left + 7) (8 * c .before .args .groups) (omega arith))
+returns c page e =
+    let a = c .before .before .before .args in
+    rw (part-size page (a .at) e)
+    (faulty-body (ltb (a .left + 7) (8 * a .groups)) (ltb (length (a .part .now)) (a .w * a .groups)) true _ (c .before .packed-fault .ensures) (c .if1 .taken))
 
-mul-if2 : tie.Need-mul-if2
-mul-if2 c = omega (arith, mul-le-mul-right {n = 32} (c .before .args .groups) (c .before .pre .0))
+-- without a fault the groups are not past n, and all there
+there : (c : tie.Else1) → let a = c .before .before .before .args in (8 * a .groups ≤ a .left + 7) × (a .w * a .groups ≤ length (a .part .now))
+there c =
+    let a = c .before .before .before .args in
+    let tests = passed (ltb (a .left + 7) (8 * a .groups)) (ltb (length (a .part .now)) (a .w * a .groups)) true (c .before .packed-fault .ensures) (c .if1 .left) in
+    (ltb-false _ _ (tests .0), ltb-false _ _ (tests .1))
+
+mul-t7 : tie.Need-mul-t7
+mul-t7 c =
+    let s = c .before .before .before in
+    omega (arith, there c, mul-le-mul-right {n = 32} (s .args .groups) (s .pre .0))
+
+add-t9 : tie.Need-add-t9
+add-t9 c = omega (arith, there c)
 
 returns-2 : tie.Need-returns-2
 unfolding packedAt
 returns-2 c page e =
-    let a = c .before .before .args in
-    rw (le-ltb (a .left + 7) (8 * a .groups) (omega arith), part-size page (a .at) e, lt-ltb (length (a .part .now)) (a .w * a .groups) (omega arith))
-
-mul-t6 : tie.Need-mul-t6
-mul-t6 c = mul-if2 (c .before)
-
-add-t7 : tie.Need-add-t7
-add-t7 c = search needs
-
-returns-3 : tie.Need-returns-3
-unfolding packedAt
-returns-3 c page e =
-    let a = c .before .before .args in
-    rw (le-ltb (a .left + 7) (8 * a .groups) (omega arith), part-size page (a .at) e, le-ltb (length (a .part .now)) (a .w * a .groups) (omega arith))
+    let a = c .before .before .before .args in
+    rw (part-size page (a .at) e)
+    (good-body (ltb (a .left + 7) (8 * a .groups)) (ltb (length (a .part .now)) (a .w * a .groups)) true _ (c .before .packed-fault .ensures) (c .if1 .left))
 
 pub packed-at-spec : {M : Type 1} → statement M
-packed-at-spec = tie.close (tie.spec add-if1 returns mul-if2 returns-2 mul-t6 add-t7 returns-3)
+packed-at-spec = tie.close (tie.spec packed-fault-requires returns mul-t7 add-t9 returns-2)

@@ -1,71 +1,61 @@
--- `runs::reading::repeated_at` meets its contract: its tests are those of the rule, on the page's rest; a value below 2^w fits.
-use Prim.Native.Nat.{_^_, _<_}
+-- `runs::reading::repeated_at` meets its contract: its fault is that of the rule, on the page's rest; a value below 2^w fits.
+use Prim.Native.Nat.{_^_, _≤_, _<_}
 use native.Mathlib.Nat.{lt-of-lt-of-le}
 use native.Mathlib.Omega.{arith}
+use lib.Dec.{ltb}
 use lib.ListN.{length}
 use lib.Pow.{pow-mono}
 use borrow.Author.Needs.{needs}
-use borrow.Author.Tests.{lt-ltb, le-ltb}
+use borrow.Author.Tests.{ltb-true, ltb-false}
 use Rattle.rules.specs.Bits.{ceil}
 use Rattle.rules.specs.Runs.{repeatedAt}
-use Rattle.words.specs.Bits.{one-shl}
 use Rattle.runs.specs.Parts.{part-size}
+use Rattle.runs.specs.Bodies.{faulty-body, good-body, passed}
 use Rattle.runs.proofs.reading.repeated_at.Statement.{statement}
 use Rattle.runs.proofs.reading.repeated_at.Tie as tie
-
-returns : tie.Need-returns
-unfolding repeatedAt
-returns c page e = let a = c .before .before .args in rw (lt-ltb (a .left) (a .count) (omega arith))
 
 add-k : tie.Need-add-k
 add-k c = search needs
 
-returns-2 : tie.Need-returns-2
-unfolding repeatedAt
-returns-2 c page e =
-    let a = c .before .before .before .args in
-    rw (le-ltb (a .left) (a .count) (omega arith), part-size page (a .at) e, lt-ltb (length (a .part .now)) (ceil (a .w) 8) (omega arith))
-
 value-of-requires : tie.Need-value-of-requires
 value-of-requires c κs = search needs
 
-shl-if3 : tie.Need-shl-if3
-shl-if3 c = search needs
+repeated-fault-requires : tie.Need-repeated-fault-requires
+repeated-fault-requires c κs = search needs
 
--- a value that passes the test is below 2^w
-small : (c : tie.Else3) → c .before .value-of .result < 2 ^ c .before .before .before .before .before .args .w
-small c = omega (arith, one-shl 64 (c .before .before .before .before .before .args .w) (omega arith))
-
-returns-3 : tie.Need-returns-3
+returns : tie.Need-returns
 unfolding repeatedAt
-returns-3 c page e =
-    let a = c .before .before .before .before .before .args in
-    let v = c .before .value-of in
-    let shl = one-shl 64 (a .w) (omega arith) in
-    rw (le-ltb (a .left) (a .count) (omega arith), part-size page (a .at) e, le-ltb (length (a .part .now)) (ceil (a .w) 8) (omega arith), e, ← v .ensures, le-ltb (v .result) (2 ^ a .w) (omega arith))
+returns c page e =
+    let v = c .before .before in
+    let a = v .before .before .args in
+    rw (part-size page (a .at) e, e, ← (v .value-of .ensures))
+    (faulty-body (ltb (a .left) (a .count)) (ltb (length (a .part .now)) (ceil (a .w) 8)) (ltb (v .value-of .result) (2 ^ a .w)) _ (c .before .repeated-fault .ensures) (c .if1 .taken))
 
-cast-t12 : tie.Need-cast-t12
-cast-t12 c = let w = c .before .before .before .before .before .args .w in record { fits = lt-of-lt-of-le (small c) (pow-mono {i = w} {j = 32} (omega arith)) }
+-- without a fault the value is there, and below 2^w
+there : (c : tie.Else1) → let v = c .before .before in let a = v .before .before .args in (ceil (a .w) 8 ≤ length (a .part .now)) × (v .value-of .result < 2 ^ a .w)
+there c =
+    let v = c .before .before in
+    let a = v .before .before .args in
+    let tests = passed (ltb (a .left) (a .count)) (ltb (length (a .part .now)) (ceil (a .w) 8)) (ltb (v .value-of .result) (2 ^ a .w)) (c .before .repeated-fault .ensures) (c .if1 .left) in
+    (ltb-false _ _ (tests .1), ltb-true _ _ (tests .2))
+
+cast-t11 : tie.Need-cast-t11
+cast-t11 c =
+    let w = c .before .before .before .before .args .w in
+    record { fits = lt-of-lt-of-le (there c .1) (pow-mono {i = w} {j = 32} (omega arith)) }
 
 add-t9 : tie.Need-add-t9
-add-t9 c = search needs
+add-t9 c = let room = there c .0 in omega arith
 
-returns-4 : tie.Need-returns-4
+returns-2 : tie.Need-returns-2
 unfolding repeatedAt
-returns-4 c page e =
-    let a = c .before .before .before .before .before .args in
-    rw (le-ltb (a .left) (a .count) (omega arith), part-size page (a .at) e, le-ltb (length (a .part .now)) (ceil (a .w) 8) (omega arith), e, ← c .before .value-of .ensures, lt-ltb _ _ (small c))
+returns-2 c page e =
+    let v = c .before .before in
+    let a = v .before .before .args in
+    rw (part-size page (a .at) e, e, ← (v .value-of .ensures))
+    (good-body (ltb (a .left) (a .count)) (ltb (length (a .part .now)) (ceil (a .w) 8)) (ltb (v .value-of .result) (2 ^ a .w)) _ (c .before .repeated-fault .ensures) (c .if1 .left))
 
 pub repeated-at-spec : {M : Type 1} → statement M
 repeated-at-spec =
     tie.close
-    (tie.spec
-    returns
-    add-k
-    returns-2
-    value-of-requires
-    shl-if3
-    returns-3
-    cast-t12
-    add-t9
-    returns-4)
+    (tie.spec add-k value-of-requires repeated-fault-requires returns cast-t11 add-t9 returns-2)

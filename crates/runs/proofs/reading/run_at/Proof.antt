@@ -73,6 +73,12 @@ part-repeated-at-end c = search needs
 repeated-at-requires : tie.Need-repeated-at-requires
 repeated-at-requires c κs = search needs
 
+returns-3 : tie.Need-returns-3
+returns-3 c =
+    let k = c .before .before .before .before in
+    let page = k .before .before .before .before .before .args .page .now in
+    by-header k (rw (ne-eqb (header k / 2) 0 (λ none. omega arith), eq-eqb _ _ (c .before .before .if2 .taken)) (c .repeated-at .ensures page (sym (part-rest page (place k)))))
+
 sub-packed-at : tie.Need-sub-packed-at
 sub-packed-at c = on-page (c .before .before)
 
@@ -84,12 +90,6 @@ part-packed-at-end c = search needs
 
 packed-at-requires : tie.Need-packed-at-requires
 packed-at-requires c κs = search needs
-
-returns-3 : tie.Need-returns-3
-returns-3 c =
-    let k = c .before .before .before .before in
-    let page = k .before .before .before .before .before .args .page .now in
-    by-header k (rw (ne-eqb (header k / 2) 0 (λ none. omega arith), eq-eqb _ _ (c .before .before .if2 .taken)) (c .repeated-at .ensures page (sym (part-rest page (place k)))))
 
 returns-4 : tie.Need-returns-4
 returns-4 c =
@@ -110,9 +110,9 @@ run-at-spec =
     part-repeated-at-start
     part-repeated-at-end
     repeated-at-requires
+    returns-3
     sub-packed-at
     part-packed-at-start
     part-packed-at-end
     packed-at-requires
-    returns-3
     returns-4)

@@ -29,7 +29,7 @@ returns c =
     let eight : 8 ≡ a .k + (8 - a .k) = omega arith in
     rw (one-shl 64 (8 * a .k) (omega arith), c .load-any .ensures)
     (ap (λ (n : ℕ). number (take n (a .part .now)) % 2 ^ (8 * a .k)) eight
-    ∙ first-bytes (a .part .now) (a .k) (8 - a .k) (λ j. c .before .shared-slice-known .given j .fits) (omega arith))
+    ∙ first-bytes (a .part .now) (a .k) (8 - a .k) (λ j. c .before .shared-slice-known .given j .fits))
 
 pub value-of-spec : {M : Type 1} → statement M
 value-of-spec = tie.close (tie.spec load-any-requires mul-result shl-result rem-result returns)
