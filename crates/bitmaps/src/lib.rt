@@ -1,13 +1,25 @@
-// The selection bitmap: how many bits are set, and the unused bits of the last byte.
+// The selection bitmap: one bit, how many bits are set, and the unused bits of the last byte.
 ghost use mathlib.Core.Path.{_≡_};
 ghost use Prim.Native.Nat.{_≤_};
 ghost use lib.ListN.{length, take};
-ghost use Rattle.rules.specs.Bits.{ceil};
+ghost use Rattle.rules.specs.Bits.{ceil, flag, bitAt};
+ghost use Rattle.rules.specs.Bits.Order.{lowFirst};
 ghost use Rattle.rules.specs.Answer.{accepted};
 ghost use Rattle.bitmaps.specs.Counts.{countOnes};
 ghost use Rattle.bitmaps.specs.Trimmed.{trimmed};
 use rules::Answer;
 use words::loads::load8;
+
+// Is bit i set; past the end none is.
+pub fn is_set(bitmap: &[u8], i: usize) -> bool
+    ensures { λ r. ⌜ flag r ≡ bitAt lowFirst 8 (now (bitmap .entry)) i ⌝ }
+{
+    let k = i / 8;
+    if bitmap.len() <= k {
+        return false;
+    }
+    (bitmap[k] >> (i % 8)) % 2 == 1
+}
 
 // How many bits of the first m bytes are set: word by word, then byte by byte.
 fn ones_in(bitmap: &[u8], m: usize) -> u32
