@@ -2,10 +2,17 @@
 use mathlib.Core.Bool.{cond}
 use mathlib.Core.List.{List, [], _∷_, _++_}
 use Prim.Native.Nat.{ℕ, zero, suc, _+_, _-_, _/_, _%_, min}
+use Prim.Native.Char.{code}
+use Prim.Native.String.{String, [] as end, _∷_ as char_then_}
 use lib.Dec.{ltb}
 use lib.ListN.{take, length, replicate}
 use Rattle.io.specs.Digits.{digits}
 use Rattle.lines.specs.declared.Line.{Line}
+
+-- a text's bytes, of which each is ASCII here
+unfoldable pub ascii : String → List ℕ
+ascii end = []
+ascii (char c then s) = code c ∷ ascii s
 
 -- the bytes laid out so far
 unfoldable pub held : Line → List ℕ

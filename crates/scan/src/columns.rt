@@ -1,28 +1,32 @@
 // A whole column: what is asked of it judged, its pages answered one after the other, the answer told.
 ghost use Prim.Native.Nat.{_≤_};
 ghost use lib.ListN.{length};
-use crate::arguments::MOST;
-use crate::arguments::place;
-use crate::asking::Asked;
-use crate::asking::sorted_out;
-use crate::comparisons;
-use crate::comparisons::Comparison;
-use crate::day;
-use crate::day::CELLS;
-use crate::day::Day;
-use crate::files;
-use crate::layouts;
-use crate::layouts::Question;
-use crate::pages;
-use crate::picture;
-use crate::telling;
+use asking::names::DICTIONARY;
+use asking::names::needs_width;
+use days::passing::CELLS;
+use days::passing::Day;
+use days::passing::page_passed;
+use days::picture;
+use days::seconds::entries_of;
+use days::seconds::needed;
+use days::seconds::start_of;
 use libc::STDERR_FILENO;
+use pages::answering;
+use pages::layouts::Question;
+use pages::layouts::is_dictionary;
+use questions::comparisons;
+use questions::comparisons::Comparison;
+use questions::comparisons::place;
+use questions::files;
+use questions::options::Asked;
+use questions::options::MOST;
+use questions::options::sorted_out;
 
 // Bytes of a full page's bitmap.
 const BITMAP: usize = 2048;
 
 // Room for a dictionary that is too long as well.
-const DICTIONARY: usize = 65540;
+const VALUES: usize = 65540;
 
 pub fn asked(layout: u32) {
     let mut words = [0usize; MOST];
@@ -30,7 +34,7 @@ pub fn asked(layout: u32) {
     if asked.wrong {
         return;
     }
-    if layouts::needs_width(layout) && !asked.has_width {
+    if needs_width(layout) && !asked.has_width {
         telling::no_width();
         return;
     }
@@ -58,14 +62,14 @@ fn question(layout: u32, asked: Asked, comparison: Comparison) -> Question {
 
 // The words before the comparison: the dictionary where there is one, and the pages.
 fn split(q: Question, asked: Asked, taken: usize, words: &[usize]) {
-    let first = (q.layout == layouts::DICTIONARY) as usize;
+    let first = (q.layout == DICTIONARY) as usize;
     let last = before_comparison(asked.words, taken, words);
     if last <= first {
         telling::no_pages(first);
         return;
     }
-    let entries = entries_of(asked, last - first - 1);
-    if pages::needed(entries) < last - first {
+    let entries = column_entries(asked, last - first - 1);
+    if needed(entries) < last - first {
         telling::many_pages(entries, last - first);
         return;
     }
@@ -86,15 +90,15 @@ fn before_comparison(m: usize, taken: usize, words: &[usize]) -> usize
 }
 
 // The column's entries: given, or by the pages before the last and the last page's.
-fn entries_of(asked: Asked, before: usize) -> usize {
+fn column_entries(asked: Asked, before: usize) -> usize {
     if asked.has_last {
-        return pages::start_of(before) + asked.last as usize;
+        return start_of(before) + asked.last as usize;
     }
     asked.entries as usize
 }
 
 fn with_dictionary(q: Question, asked: Asked, entries: usize, at: usize, files: &[usize]) {
-    if q.layout != layouts::DICTIONARY {
+    if q.layout != DICTIONARY {
         with_bitmap(q, asked, entries, &[], files);
         return;
     }
@@ -102,12 +106,12 @@ fn with_dictionary(q: Question, asked: Asked, entries: usize, at: usize, files: 
     if fd < 0 {
         return;
     }
-    let mut dictionary = [0u8; DICTIONARY];
+    let mut dictionary = [0u8; VALUES];
     let n = io::read_full(fd, &mut dictionary);
     if !files::ended(fd, at) {
         return;
     }
-    if !layouts::is_dictionary(&dictionary[..n]) {
+    if !is_dictionary(&dictionary[..n]) {
         telling::refused(at, 14);
         telling::say(b"Without its dictionary no page is answered.");
         return;
@@ -197,12 +201,12 @@ fn page_answered(
     answered: &mut [u32; CELLS],
 ) -> Day {
     let mut bitmap = [0u8; BITMAP];
-    let n = pages::entries_of(k, entries);
-    let is_answered = pages::answered(q, dictionary, at, n, &mut bitmap);
-    pages::kept(out, &bitmap, n);
+    let n = entries_of(k, entries);
+    let is_answered = answering::answered(q, dictionary, at, n, &mut bitmap);
+    answering::kept(out, &bitmap, n);
     if !is_answered {
         return day.loses();
     }
-    let start = pages::start_of(k);
-    day::page_passed(day, start, start + n, &bitmap, selected, answered)
+    let start = start_of(k);
+    page_passed(day, start, start + n, &bitmap, selected, answered)
 }

@@ -1,16 +1,9 @@
 // The program `scan`: which seconds of a column satisfy a comparison, and where in the day they lie.
-mod arguments;
-mod asking;
 mod columns;
-mod comparisons;
-mod day;
-mod files;
-mod layouts;
-mod numbers;
-mod pages;
-mod picture;
-mod telling;
 
+use asking::names::NO_LAYOUT;
+use asking::names::is_help;
+use asking::names::layout;
 use libc::STDERR_FILENO;
 use libc::STDOUT_FILENO;
 
@@ -30,14 +23,10 @@ fn asked(word: &[u8]) {
         telling::usage(STDOUT_FILENO);
         return;
     }
-    let layout = layouts::named(word);
-    if layout == layouts::UNKNOWN {
+    let named = layout(word);
+    if named == NO_LAYOUT {
         telling::wrong_layout(word);
         return;
     }
-    columns::asked(layout);
-}
-
-fn is_help(word: &[u8]) -> bool {
-    arguments::same(word, b"help") | arguments::same(word, b"--help") | arguments::same(word, b"-h")
+    columns::asked(named);
 }

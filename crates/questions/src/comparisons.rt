@@ -1,0 +1,152 @@
+// The comparison at the end of the words: an operator and its one or two constants.
+use crate::files;
+use asking::names::BETWEEN;
+use asking::names::NO_OPERATOR;
+use asking::names::operator;
+use asking::names::operator_number;
+use asking::numbers::Constant;
+use asking::numbers::read_constant;
+
+// Operator number and constants, and how many words they took: 0 where there is no comparison.
+pub struct Comparison {
+    pub op: u32,
+    pub a: i64,
+    pub b: i64,
+    pub words: usize,
+}
+
+fn nothing() -> Comparison {
+    Comparison {
+        op: 0,
+        a: 0,
+        b: 0,
+        words: 0,
+    }
+}
+
+// The place of word k, or 0, the program's own name, past the list's end.
+pub fn place(words: &[usize], k: usize) -> usize {
+    if words.len() <= k {
+        return 0;
+    }
+    words[k]
+}
+
+fn named_at(at: usize) -> u32 {
+    let mut word = io::buffer();
+    let n = os::arg(at, &mut word);
+    operator(&word[..n])
+}
+
+fn numbered_at(at: usize) -> u32 {
+    let mut word = io::buffer();
+    let n = os::arg(at, &mut word);
+    operator_number(&word[..n])
+}
+
+fn constant_at(at: usize) -> Constant {
+    let mut word = io::buffer();
+    let n = os::arg(at, &mut word);
+    read_constant(&word[..n])
+}
+
+fn is_constant(at: usize) -> bool {
+    let c = constant_at(at);
+    match c {
+        Constant::Is(_) => true,
+        Constant::Nothing => false,
+    }
+}
+
+// A constant that is no number is said.
+fn told(at: usize) -> Comparison {
+    telling::no_constant(at);
+    nothing()
+}
+
+fn with_one(op: u32, first: usize) -> Comparison {
+    let Constant::Is(a) = constant_at(first) else {
+        return told(first);
+    };
+    Comparison {
+        op: op,
+        a: a,
+        b: 0,
+        words: 2,
+    }
+}
+
+fn with_two(op: u32, first: usize, second: usize) -> Comparison {
+    let Constant::Is(a) = constant_at(first) else {
+        return told(first);
+    };
+    let Constant::Is(b) = constant_at(second) else {
+        return told(second);
+    };
+    Comparison {
+        op: op,
+        a: a,
+        b: b,
+        words: 3,
+    }
+}
+
+// The last of m words, or their last three.
+pub fn at_end(words: &[usize], m: usize) -> Comparison {
+    if m < 2 {
+        telling::no_comparison();
+        return nothing();
+    }
+    let second = place(words, m - 1);
+    let first = place(words, m - 2);
+    let op = named_at(first);
+    if op < BETWEEN {
+        return with_one(op, second);
+    }
+    if m < 3 {
+        return by_number(0, first, second);
+    }
+    longer(place(words, m - 3), first, second)
+}
+
+// Three words, of which the second is no operator of one constant by its word.
+fn longer(before: usize, first: usize, second: usize) -> Comparison {
+    let op = named_at(before);
+    if op < BETWEEN {
+        telling::one_constant(before);
+        return nothing();
+    }
+    if op != NO_OPERATOR {
+        return with_two(op, first, second);
+    }
+    let digit = numbered_at(before);
+    if digit == 6 || digit == 7 {
+        return with_two(digit, first, second);
+    }
+    by_number(before, first, second)
+}
+
+// By its number an operator might be a constant of a mistyped one: what stands before it must then be a file.
+fn by_number(before: usize, first: usize, second: usize) -> Comparison {
+    let op = numbered_at(first);
+    if op < BETWEEN && (before == 0 || files::is_there(before)) {
+        return with_one(op, second);
+    }
+    wrong(before, first, second)
+}
+
+// The word that is most likely meant as the operator, and what is wrong with it.
+fn wrong(before: usize, first: usize, second: usize) -> Comparison {
+    if named_at(second) != NO_OPERATOR {
+        telling::bare_operator(second);
+    } else if named_at(first) != NO_OPERATOR {
+        telling::two_constants(first);
+    } else if before != 0 && is_constant(first) && !files::is_there(before) {
+        telling::wrong_operator(before);
+    } else if numbered_at(first) != NO_OPERATOR {
+        telling::two_constants(first);
+    } else {
+        telling::wrong_operator(first);
+    }
+    nothing()
+}
