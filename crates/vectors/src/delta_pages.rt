@@ -1,10 +1,10 @@
 // Delta pages: Parquet's two examples in blocks of 128 with 4 miniblocks, and with their own block size of 8, which is refused; pages that other writers may write.
-use crate::rows::GAVE;
-use crate::rows::refused;
-use crate::signed_entries::read;
 use delta::reading::unpack;
 use lines::Line;
 use lines::topic;
+use rows::GAVE;
+use rows::refused;
+use rows::signed_entries::read;
 
 pub fn shown() -> bool {
     topic(b"Delta pages");

@@ -1,10 +1,10 @@
 // Dictionary columns: document 01's example, with the value 310 and without it, and what other writers may write.
-use crate::rows::GAVE;
-use crate::rows::refused;
-use crate::signed_entries::read;
 use dictionary::reading::unpack;
 use lines::Line;
 use lines::topic;
+use rows::GAVE;
+use rows::refused;
+use rows::signed_entries::read;
 
 // -120, 0, 85, 310.
 const VALUES: [u8; 16] = [

@@ -1,8 +1,8 @@
 // Bare horizontal pages: Parquet's bit packing example, the numbers 0 to 7 at width 3.
-use crate::rows::asked;
-use crate::rows::read;
 use horizontal::reading::unpack;
 use lines::topic;
+use rows::asked;
+use rows::read;
 
 pub fn shown() -> bool {
     topic(b"Horizontal pages");

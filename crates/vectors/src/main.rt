@@ -2,9 +2,7 @@
 mod delta_pages;
 mod dictionary_columns;
 mod horizontal_pages;
-mod rows;
 mod run_streams;
-mod signed_entries;
 
 use lines::say;
 use lines::topic;

@@ -1,8 +1,8 @@
 // Run streams: document 01's examples, and a header of more groups than 32 bits of entries.
-use crate::rows::asked;
-use crate::rows::read;
-use crate::rows::refused;
 use lines::topic;
+use rows::asked;
+use rows::read;
+use rows::refused;
 use streams::reading::unpack;
 
 pub fn shown() -> bool {

@@ -1,8 +1,8 @@
--- `vectors::signed_entries::entries` is safe and ends: each turn leaves fewer entries.
+-- `rows::signed_entries::entries` is safe and ends: each turn leaves fewer entries.
 use Prim.Native.Nat.{_-_}
 use borrow.Author.Needs.{needs}
-use Rattle.vectors.proofs.signed_entries.entries.Statement.{statement}
-use Rattle.vectors.proofs.signed_entries.entries.Tie as tie
+use Rattle.rows.proofs.signed_entries.entries.Statement.{statement}
+use Rattle.rows.proofs.signed_entries.entries.Tie as tie
 
 abbrev Inv-loop : tie.InvT-loop
 Inv-loop list n line₀ i₀ line i = Unit {0}
@@ -16,8 +16,8 @@ loop-holds c = search needs
 mul-entry : tie.Need-mul-entry Inv-loop μ-loop
 mul-entry c = search needs
 
-shared-slice-copy-out-entry : tie.Need-shared-slice-copy-out-entry Inv-loop μ-loop
-shared-slice-copy-out-entry c = search needs
+shared-slice-read-entry : tie.Need-shared-slice-read-entry Inv-loop μ-loop
+shared-slice-read-entry c = search needs
 
 entry-requires : tie.Need-entry-requires Inv-loop μ-loop
 entry-requires c κs = search needs
@@ -45,7 +45,7 @@ entries-spec =
     μ-loop
     loop-holds
     mul-entry
-    shared-slice-copy-out-entry
+    shared-slice-read-entry
     entry-requires
     add-i
     loop-less
