@@ -1,1 +1,3 @@
 pub mod Clock
+pub mod Passed
+pub mod Sentence

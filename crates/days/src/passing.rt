@@ -1,5 +1,7 @@
 // What is kept of the pages passed: how many seconds are selected, the first and the last, and the day's cells.
-
+ghost use mathlib.Core.Path.{_≡_};
+ghost use Prim.Native.Nat.{_-_};
+ghost use Rattle.days.specs.Passed.{more, fresh, losing, reading, selecting, passing, passed, chosenBy};
 use bitmaps::is_set;
 use lines::Line;
 
@@ -22,7 +24,9 @@ pub struct Day {
 }
 
 impl Day {
-    pub fn new(listing: bool) -> Day {
+    pub fn new(listing: bool) -> Day
+        ensures { λ r. ⌜ r ≡ fresh listing ⌝ }
+    {
         Day {
             read: 0,
             count: 0,
@@ -33,27 +37,37 @@ impl Day {
         }
     }
 
-    pub fn loses(mut self) -> Day {
+    pub fn loses(mut self) -> Day
+        ensures { λ r. ⌜ r ≡ losing self ⌝ }
+    {
         self.lost = one_more(self.lost);
         self
     }
 
-    fn reads(mut self) -> Day {
+    fn reads(mut self) -> Day
+        ensures { λ r. ⌜ r ≡ reading self ⌝ }
+    {
         self.read = one_more(self.read);
         self
     }
 
-    fn selects(mut self, second: usize) -> Day {
-        if self.count == 0 {
-            self.first = second;
-        }
-        self.count = one_more(self.count);
+    fn selects(mut self, second: usize) -> Day
+        ensures { λ r. ⌜ r ≡ selecting second self ⌝ }
+    {
+        let held = self.count;
+        self.count = one_more(held);
         self.last = second;
+        if held == 0 {
+            self.first = second;
+            return self;
+        }
         self
     }
 }
 
-fn one_more(x: usize) -> usize {
+fn one_more(x: usize) -> usize
+    ensures { λ r. ⌜ r ≡ more x ⌝ }
+{
     if x < usize::MAX { x + 1 } else { x }
 }
 
@@ -75,7 +89,9 @@ fn second_passed(
     is_selected: bool,
     selected: &mut [u32; CELLS],
     answered: &mut [u32; CELLS],
-) -> Day {
+) -> Day
+    ensures { λ r. ⌜ r ≡ passing «is_selected» second day ⌝ }
+{
     counted(answered, second);
     let passed = day.reads();
     if !is_selected {
@@ -96,7 +112,9 @@ pub fn page_passed(
     bitmap: &[u8],
     selected: &mut [u32; CELLS],
     answered: &mut [u32; CELLS],
-) -> Day {
+) -> Day
+    ensures { λ r. ⌜ r ≡ passed (chosenBy (now (bitmap .entry))) start (end - start) before ⌝ }
+{
     let mut day = before;
     let mut second = start;
     while second < end {

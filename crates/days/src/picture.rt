@@ -1,4 +1,8 @@
 // What the answer looks like: a sentence, and the picture of the day.
+ghost use mathlib.Core.Path.{_≡_};
+ghost use mathlib.Core.List.{[]};
+ghost use Rattle.lines.specs.Text.{held, laid};
+ghost use Rattle.days.specs.Sentence.{sentenceOf};
 use crate::clocks::clock;
 use crate::passing::CELL;
 use crate::passing::CELLS;
@@ -7,7 +11,9 @@ use lines::Line;
 use lines::say;
 
 // How many of the seconds that were read are selected, and the ends of them.
-pub fn sentence(day: Day) -> Line {
+pub fn sentence(day: Day) -> Line
+    ensures { λ r. ⌜ held r ≡ laid [] (sentenceOf day) ⌝ }
+{
     if day.read == 0 {
         return Line::new().words(b"no second was read");
     }

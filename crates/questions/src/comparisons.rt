@@ -1,4 +1,6 @@
 // The comparison at the end of the words: an operator and its one or two constants.
+ghost use mathlib.Core.Path.{_≡_};
+ghost use lib.ListN.{getD};
 use crate::files;
 use asking::names::BETWEEN;
 use asking::names::NO_OPERATOR;
@@ -25,7 +27,9 @@ fn nothing() -> Comparison {
 }
 
 // The place of word k, or 0, the program's own name, past the list's end.
-pub fn place(words: &[usize], k: usize) -> usize {
+pub fn place(words: &[usize], k: usize) -> usize
+    ensures { λ r. ⌜ r ≡ getD (now (words .entry)) k 0 ⌝ }
+{
     if words.len() <= k {
         return 0;
     }

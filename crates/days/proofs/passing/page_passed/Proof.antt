@@ -1,17 +1,26 @@
--- `days::passing::page_passed` is safe and ends: each turn leaves fewer seconds.
-use Prim.Native.Nat.{_-_}
+-- `days::passing::page_passed` meets its contract: each turn passes one second.
+use mathlib.Core.Path.{_≡_}
+use Prim.Native.Nat.{_-_, _≤_, _%_}
+use native.Mathlib.Omega.{arith}
 use borrow.Author.Needs.{needs}
+use Rattle.rules.specs.Bits.{bitAt}
+use Rattle.rules.specs.Bits.Order.{lowFirst}
+use Rattle.days.specs.Passed.{passed, chosenBy, flag-is, passed-none, passed-next, passed-all}
 use Rattle.days.proofs.passing.page_passed.Statement.{statement}
 use Rattle.days.proofs.passing.page_passed.Tie as tie
 
 abbrev Inv-loop : tie.InvT-loop
-Inv-loop start end bitmap selected₀ answered₀ day₀ second₀ selected answered day second = Unit {0}
+Inv-loop start end bitmap selected₀ answered₀ day₀ second₀ selected answered day second = (start ≤ second) × (second - start ≤ end - start) × (day ≡ passed (chosenBy bitmap) start (second - start) day₀)
 
 abbrev μ-loop : tie.MeasureT-loop
 μ-loop start end bitmap selected₀ answered₀ day₀ second₀ selected answered day second = end - second
 
 loop-holds : tie.Need-loop-holds Inv-loop μ-loop
-loop-holds c = search needs
+loop-holds c = (
+  search needs,
+  search needs,
+  passed-none (chosenBy (c .before .args .bitmap .now)) (c .before .args .start) (c .before .args .before),
+)
 
 is-set-requires : tie.Need-is-set-requires Inv-loop μ-loop
 is-set-requires c κs = search needs
@@ -26,10 +35,23 @@ loop-less : tie.Need-loop-less Inv-loop μ-loop
 loop-less c = search needs
 
 loop-again : tie.Need-loop-again Inv-loop μ-loop
-loop-again c = search needs
+loop-again c =
+    let i = c .before .before .before in
+    let l = i .before .before in
+    let a = l .before .before .args in
+    let s = l .loop .second in
+    let told = flag-is (i .is-set .result) (bitAt lowFirst 8 (a .bitmap .now) (s % 16384)) (i .is-set .ensures) in (
+      omega arith,
+      omega arith,
+      passed-next (chosenBy (a .bitmap .now)) (a .start) (a .before) s (i .is-set .result) (l .loop .day) (c .second-passed .result) (l .loop .inv .0) told (l .loop .inv .2)
+          (c .second-passed .ensures),
+    )
 
 returns : tie.Need-returns Inv-loop μ-loop
-returns c = search needs
+returns c =
+    let l = c .before in
+    let a = l .before .before .args in
+    passed-all (chosenBy (a .bitmap .now)) (a .start) (a .before) (l .loop .second) (a .end) (l .loop .day) (l .loop .inv .1) (omega arith) (l .loop .inv .2)
 
 pub page-passed-spec : {M : Type 1} → statement M
 page-passed-spec =
