@@ -3,10 +3,10 @@ ghost use mathlib.Core.Path.{_≡_};
 ghost use Prim.Native.Nat.{_≤_};
 ghost use Rattle.rules.specs.Answer.{_then_, roomFault};
 ghost use Rattle.rules.specs.Dictionary as Dictionary;
-use crate::finding::either;
-use crate::indexes::page_fault;
 use crate::values::value_at;
 use answers::room_fault;
+use indexes::finding::either;
+use indexes::pages::page_fault;
 
 // Is some value not above the one before it.
 fn unordered(dict: &[u8]) -> bool

@@ -8,8 +8,8 @@ use Rattle.rules.specs.Dictionary.{value}
 use Rattle.words.specs.Puts.{part-rest}
 use Rattle.streams.specs.Placed.{placed}
 use Rattle.dictionary.specs.Values.{good-dictionary}
-use Rattle.dictionary.specs.Pages as Pages
-use Rattle.dictionary.specs.Pages.{good-page, widthOf, indexes-placed}
+use Rattle.indexes.specs.Pages as Pages
+use Rattle.indexes.specs.Pages.{good-page, widthOf, indexes-placed}
 use Rattle.dictionary.specs.Faults.{Good, good-column}
 use Rattle.dictionary.proofs.reading.place.Statement.{statement}
 use Rattle.dictionary.proofs.reading.place.Tie as tie

@@ -1,0 +1,6 @@
+pub mod Some
+pub mod Pages
+pub mod Faults
+pub mod Large
+pub mod Windows
+pub mod Sought
