@@ -1,6 +1,4 @@
 // The program `scan`: which seconds of a column satisfy a comparison, and where in the day they lie.
-mod columns;
-
 use asking::names::NO_LAYOUT;
 use asking::names::is_help;
 use asking::names::layout;
@@ -28,5 +26,5 @@ fn asked(word: &[u8]) {
         telling::wrong_layout(word);
         return;
     }
-    columns::asked(named);
+    clerk::asked(named);
 }
