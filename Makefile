@@ -18,6 +18,7 @@ help:
 
 # Nothing is shown of the proofs unless one fails.
 run: need-rt
+	@echo 'Proving the program and what it stands on; the first time this takes some minutes.' >&2
 	@said=$$(rt check scan 2>&1) || { printf '%s\n' "$$said"; exit 1; }
 	@tools/sample-day
 
