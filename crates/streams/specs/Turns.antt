@@ -1,18 +1,16 @@
 -- The turns of a pass over a stream that counts its entries from 0 up to n.
-use mathlib.Core.Path.{_≡_, sym, ap, subst, subst₂, _∙_}
+use mathlib.Core.Path.{_≡_, sym, ap, subst₂, _∙_}
 use mathlib.Core.List.{List}
-use Prim.{tt}
 use Prim.Native.Nat.{ℕ, _+_, _-_, _*_, _≤_, _<_, min}
 use native.Mathlib.Omega.{arith}
-use lib.Dec.{ltb}
-use lib.ListN.{length, take, drop}
+use lib.ListN.{take, drop}
 use Rattle.rules.specs.Bits.{entry}
 use Rattle.rules.specs.Bits.Order.{lowFirst}
-use Rattle.rules.specs.Runs.{runAt, atEnd, read, streamFault}
+use Rattle.rules.specs.Runs.{runAt}
 use Rattle.rules.specs.declared.Run.the-variants.{Repeated, Packed, Refused}
 use Rattle.runs.specs.Walks.{Comes}
 use Rattle.runs.specs.Walks as Walks
-use Rattle.runs.specs.Second.{writing, pass, pass-comes, judge, judge-comes}
+use Rattle.runs.specs.Second.{writing, pass, pass-comes}
 use Rattle.runs.specs.Shown.{ran-repeated, ran-packed}
 use Rattle.streams.specs.Covered.{written}
 
@@ -50,32 +48,3 @@ module _ {O : Type 0} (n : ℕ) (write : ℕ → ℕ → (ℕ → ℕ) → O →
 
   pub ends : {at i : ℕ} {out : O} → onward at i out → n ≤ i → x ≡ out
   ends comes h = Walks.on-end (writing (written n write w)) comes (omega arith)
-
--- ---- the stream judged on the way
-
-module _ (n w : ℕ) (page : List ℕ) where
-  -- its code is what judging on from here gives
-  abbrev pub judging : ℕ → ℕ → Type 0
-  judging at i = Comes judge (streamFault (read w n page)) w (n - i) page at tt
-
-  at-place : {left at : ℕ} (i : ℕ) → left ≡ n - i → Comes judge (streamFault (read w n page)) w left page at tt → judging at i
-  at-place {at = at} i e comes = subst (λ (left : ℕ). Comes judge (streamFault (read w n page)) w left page at tt) e comes
-
-  pub judge-begins : judging 0 0
-  judge-begins = at-place 0 (omega arith) (judge-comes w n page)
-
-  module _ {at : ℕ} (i : ℕ) (some : i < n) (comes : judging at i) where
-    more : 0 < n - i
-    more = omega arith
-
-    pub judge-repeated : {count value next : ℕ} → runAt w (n - i) page at ≡ Repeated count value next → judging next (i + count)
-    judge-repeated {count} q = at-place (i + count) (omega arith) (Walks.on-repeated judge more comes q)
-
-    pub judge-packed : {groups start next : ℕ} → runAt w (n - i) page at ≡ Packed groups start next → judging next (i + 8 * groups)
-    judge-packed {groups} q = at-place (i + 8 * groups) (omega arith) (Walks.on-packed judge more comes q)
-
-    pub judge-refused : {code : ℕ} → runAt w (n - i) page at ≡ Refused code → streamFault (read w n page) ≡ code
-    judge-refused q = Walks.on-refused judge more comes q
-
-  pub judge-ends : {at : ℕ} (i : ℕ) → judging at i → n ≤ i → streamFault (read w n page) ≡ streamFault (atEnd (ltb at (length page)))
-  judge-ends i comes h = Walks.on-end judge comes (omega arith)

@@ -4,7 +4,6 @@ ghost use Prim.Native.Nat.{_+_, _*_, _%_, _≤_, _<_};
 ghost use lib.ListN.{length};
 ghost use Rattle.rules.specs.Bits.{ceil, word, field};
 ghost use Rattle.rules.specs.Bits.Order.{lowFirst};
-ghost use Rattle.rules.specs.Runs.{read, streamFault};
 ghost use Rattle.words.specs.Appended.{appended};
 ghost use Rattle.compare.specs.Range.{ranged};
 ghost use Rattle.streams.specs.Marked.{marked};
@@ -33,11 +32,10 @@ fn mark_body(
     mark_packed(&page[start..end], w, m, range, bitmap, p);
 }
 
-// All runs, in turn, each judged and its bits set: the code of the first fault in reading order, which ends the pass, or 0.
-pub fn mark_judged(page: &[u8], w: usize, n: usize, range: Range, bitmap: &mut [u8]) -> u32
+// All runs, in turn; a fault ends the pass.
+pub fn mark_runs(page: &[u8], w: usize, n: usize, range: Range, bitmap: &mut [u8])
     requires { ⌜ (w ≤ 32) × (n ≤ 16384) × (ceil n 8 ≤ length (now bitmap)) × (range .low + range .span < 4294967296) × (range .flip % 255 ≡ 0) ⌝ }
-    ensures judged { λ r. ⌜ r ≡ streamFault (read w n (now (page .entry))) ⌝ }
-    ensures written { λ _. ⌜ now (bitmap .exit) ≡ marked (ranged range) w n (now (page .entry)) (now (bitmap .entry)) ⌝ }
+    ensures { λ _. ⌜ now (bitmap .exit) ≡ marked (ranged range) w n (now (page .entry)) (now (bitmap .entry)) ⌝ }
 {
     let mut at: usize = 0;
     let mut i: usize = 0;
@@ -58,21 +56,9 @@ pub fn mark_judged(page: &[u8], w: usize, n: usize, range: Range, bitmap: &mut [
                 i += 8 * groups;
                 at = next;
             }
-            Run::Refused(code) => {
-                return code;
+            Run::Refused(_) => {
+                return;
             }
         }
     }
-    if at < page.len() {
-        return 6;
-    }
-    0
-}
-
-// The same of a stream that was judged before.
-pub fn mark_runs(page: &[u8], w: usize, n: usize, range: Range, bitmap: &mut [u8])
-    requires { ⌜ (w ≤ 32) × (n ≤ 16384) × (ceil n 8 ≤ length (now bitmap)) × (range .low + range .span < 4294967296) × (range .flip % 255 ≡ 0) ⌝ }
-    ensures { λ _. ⌜ now (bitmap .exit) ≡ marked (ranged range) w n (now (page .entry)) (now (bitmap .entry)) ⌝ }
-{
-    mark_judged(page, w, n, range, bitmap);
 }

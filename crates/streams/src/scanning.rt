@@ -8,33 +8,26 @@ ghost use Rattle.rules.specs.Answer.{_then_, roomFault, scanned};
 ghost use Rattle.rules.specs.Answer.Outcome.{outcome};
 ghost use Rattle.rules.specs.Runs as Runs;
 ghost use Rattle.compare.specs.Band.{banded};
-use crate::marking_runs::mark_judged;
+use crate::judging::fault;
+use crate::marking_runs::mark_runs;
 use answers::refused;
-use answers::room_fault;
 use bitmaps::counted;
 use compare::bands::Band;
 use compare::ranges::range_of;
 use rules::Answer;
 use scans::Arguments;
 use scans::arguments_of;
-use selection::pages::copy;
 
-// By its band: the runs set bits of our own as they are judged, since the caller's may not be touched before the whole stream is known to be good.
+// By its band: the room and the stream are judged, then each run sets its bits, and they are counted.
 fn scan_band(page: &[u8], width: u32, n: usize, band: Band, bitmap: &mut [u8]) -> Answer
     requires { ⌜ (width ≤ 32) × (n ≤ 16384) ⌝ }
     ensures { λ r. ⌜ outcome r (now (bitmap .exit)) ≡ scanned (roomFault (length (now (bitmap .entry))) (ceil n 8) then Runs.streamFault (Runs.read width n (now (page .entry)))) n (λ i. banded band (pos (Runs.streamEntry width (Runs.read width n (now (page .entry))) i))) (now (bitmap .entry)) ⌝ }
 {
-    let q = (n + 7) / 8;
-    let room = room_fault(bitmap.len(), q);
-    if room != 0 {
-        return refused(room);
-    }
-    let mut marks = [0u8; 2048];
-    let code = mark_judged(page, width as usize, n, range_of(band), &mut marks);
+    let code = fault(page, width, n, bitmap.len(), (n + 7) / 8);
     if code != 0 {
         return refused(code);
     }
-    copy(&marks[..q], 0, bitmap);
+    mark_runs(page, width as usize, n, range_of(band), bitmap);
     counted(bitmap, n)
 }
 
