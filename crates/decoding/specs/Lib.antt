@@ -1,7 +1,3 @@
-pub mod Steps
-pub mod Passed
-pub mod Written
-pub mod Octets
 pub mod Minis
 pub mod Pages
 pub mod Ranges

@@ -15,8 +15,8 @@ use Rattle.rules.specs.Delta.{sum, bodyBytes, miniDeltas, blockDeltas}
 use Rattle.words.specs.Tabulated.{length-tabulate, getD-tabulate}
 use Rattle.signed.specs.Entries.{step, step-is}
 use Rattle.decoding.specs.declared.miniblocks.Miniblocks.{Miniblocks}
-use Rattle.decoding.specs.Steps.{packedStep}
-use Rattle.decoding.specs.Passed.{Passed, Starts, Grows, passed-none, passed-more}
+use Rattle.octets.specs.Steps.{packedStep}
+use Rattle.octets.specs.Passed.{Passed, Starts, Grows, passed-none, passed-more}
 
 abbrev pub deltasIn : Miniblocks → List ℕ → List ℤ
 deltasIn b page = blockDeltas (b .need) (b .size) (zigzag (b .least)) page (b .widths) (b .bodies)

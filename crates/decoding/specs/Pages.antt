@@ -23,7 +23,7 @@ use Rattle.blocks.specs.Turns.{Comes, blockHere, deltasHere, next-block, next-d
 use Rattle.blocks.specs.Heads.{head-places}
 use Rattle.blocks.specs.Faults.{Holds, good-page}
 use Rattle.decoding.specs.declared.miniblocks.Miniblocks.{Miniblocks}
-use Rattle.decoding.specs.Passed.{Passed, Starts, Grows, passed-none, passed-more}
+use Rattle.octets.specs.Passed.{Passed, Starts, Grows, passed-none, passed-more}
 use Rattle.decoding.specs.Minis.{deltasIn, Judged, delta-at, length-block}
 
 abbrev pub deltasOf : Deltas → List ℤ

@@ -8,14 +8,14 @@ ghost use Rattle.rules.specs.Delta.{shaped, blocksAt, read, pageFault, pageEntr
 ghost use Rattle.rules.specs.Delta.Deltas.{good};
 ghost use Rattle.signed.specs.Reached.{reached};
 ghost use Rattle.signed.specs.Entries.{step};
-ghost use Rattle.decoding.specs.Written.{places};
+ghost use Rattle.octets.specs.Written.{places};
 ghost use Rattle.decoding.specs.Pages.{deltasOf};
 use crate::miniblocks::Miniblocks;
 use crate::placing_blocks::place_block;
-use crate::steps::kept_number;
 use blocks::heads::head_at;
 use blocks::laying::block_at;
 use blocks::laying::needed_of;
+use octets::steps::kept_number;
 use rules::Block;
 use rules::Head;
 use signed::wrapping::signed32;

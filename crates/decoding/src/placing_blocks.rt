@@ -4,12 +4,12 @@ ghost use Prim.Native.Nat.{_+_, _*_, _%_, _≤_, _<_, min};
 ghost use lib.ListN.{length};
 ghost use Rattle.signed.specs.Reached.{reached};
 ghost use Rattle.signed.specs.Entries.{step};
-ghost use Rattle.decoding.specs.Steps.{packedStep};
-ghost use Rattle.decoding.specs.Written.{places};
+ghost use Rattle.octets.specs.Steps.{packedStep};
+ghost use Rattle.octets.specs.Written.{places};
 ghost use Rattle.decoding.specs.Minis.{deltasIn, Judged};
 use crate::miniblocks::Miniblocks;
-use crate::placing_eights::place_eight;
-use crate::steps::kept_number;
+use octets::placing::place_eight;
+use octets::steps::kept_number;
 use words::counts::below;
 
 // k entries from `from` on, by the body of a miniblock, into the places from i on; gives the entry after them.

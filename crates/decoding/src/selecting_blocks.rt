@@ -6,13 +6,13 @@ ghost use Rattle.rules.specs.Bits.{ceil};
 ghost use Rattle.signed.specs.Reached.{reached};
 ghost use Rattle.signed.specs.Entries.{step};
 ghost use Rattle.compare.specs.Range.{ranged};
-ghost use Rattle.decoding.specs.Steps.{packedStep};
-ghost use Rattle.decoding.specs.Written.{selects};
+ghost use Rattle.octets.specs.Steps.{packedStep};
+ghost use Rattle.octets.specs.Written.{selects};
 ghost use Rattle.decoding.specs.Minis.{deltasIn, Judged};
 use crate::miniblocks::Miniblocks;
-use crate::octets::eight;
-use crate::steps::kept_number;
 use compare::ranges::Range;
+use octets::steps::kept_number;
+use octets::testing::eight;
 use words::counts::below;
 
 // k entries from `from` on, by the body of a miniblock, as the entries from i on; gives the entry after them.

@@ -6,7 +6,7 @@ ghost use lib.ListN.{length, getD};
 ghost use Rattle.rules.specs.Bits.{ceil, field, put, tabulate};
 ghost use Rattle.rules.specs.Bits.Order.{lowFirst};
 ghost use Rattle.rules.specs.Dictionary.{value};
-ghost use Rattle.streams.specs.Placed.{placed};
+ghost use Rattle.walks.specs.Placed.{placed};
 use crate::values::value_any;
 use packing::unpacking::unpack;
 use rules::Run;

@@ -13,9 +13,9 @@ use Rattle.rules.specs.Bitmap.{bitmap}
 use Rattle.rules.specs.Runs.{Stream, read, streamFault, streamEntry}
 use Rattle.rules.specs.Runs.Stream.{bad}
 use Rattle.rules.specs.Dictionary.{indexes, indexAt}
-use Rattle.streams.specs.Marked.{marked}
-use Rattle.streams.specs.Placed.{placed}
-use Rattle.streams.specs.Values.{entry-below, marked-read, placed-read}
+use Rattle.walks.specs.Marked.{marked}
+use Rattle.walks.specs.Placed.{placed}
+use Rattle.walks.specs.Values.{entry-below, marked-read, placed-read}
 
 -- the width byte of a page, and the stream behind it
 abbrev pub widthOf : List ℕ → ℕ

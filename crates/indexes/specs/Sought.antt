@@ -19,7 +19,7 @@ use Rattle.packing.specs.Filled.{body-fits}
 use Rattle.runs.specs.Shown.{Shown, refuses, shown}
 use Rattle.runs.specs.Second.{judge, judge-comes, pass, pass-cut}
 use Rattle.runs.specs.Walks.{Comes, on-refused, on-repeated, on-packed}
-use Rattle.streams.specs.Covered.{written, covers}
+use Rattle.walks.specs.Covered.{written, covers}
 use Rattle.indexes.specs.Some.{some-ext, some-add, some-same}
 
 -- ---- a pass

@@ -15,7 +15,7 @@ use columns::Unsigned;
 use compare::ranges::Range;
 use rules::Answer;
 use runs::judging::stream_fault;
-use streams::marking_runs::mark_runs;
+use walks::marking_runs::mark_runs;
 
 // 5 without its width byte, 1, then the stream's first fault in reading order, and else 15 where some index is not below the limit.
 // Where the width cannot spell such an index, none is looked for.

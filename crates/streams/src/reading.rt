@@ -3,11 +3,11 @@ ghost use mathlib.Core.Path.{_≡_};
 ghost use Rattle.rules.specs.Answer.Outcome.{outcome};
 ghost use Rattle.rules.specs.Runs as Runs;
 use crate::judging::fault;
-use crate::placing_runs::place_runs;
 use answers::done;
 use answers::refused;
 use columns::unsigned_fault;
 use rules::Answer;
+use walks::placing_runs::place_runs;
 
 pub fn unpack(page: &[u8], width: u32, n: usize, entries: &mut [u32]) -> Answer
     ensures { λ r. ⌜ outcome r (now (entries .exit)) ≡ Runs.unpack (now (page .entry)) width n (now (entries .entry)) ⌝ }

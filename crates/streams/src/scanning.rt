@@ -9,7 +9,6 @@ ghost use Rattle.rules.specs.Answer.Outcome.{outcome};
 ghost use Rattle.rules.specs.Runs as Runs;
 ghost use Rattle.compare.specs.Band.{banded};
 use crate::judging::fault;
-use crate::marking_runs::mark_runs;
 use answers::refused;
 use bitmaps::counted;
 use compare::bands::Band;
@@ -17,6 +16,7 @@ use compare::ranges::range_of;
 use rules::Answer;
 use scans::Arguments;
 use scans::arguments_of;
+use walks::marking_runs::mark_runs;
 
 // By its band: the room and the stream are judged, then each run sets its bits, and they are counted.
 fn scan_band(page: &[u8], width: u32, n: usize, band: Band, bitmap: &mut [u8]) -> Answer

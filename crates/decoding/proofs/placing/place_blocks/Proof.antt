@@ -12,8 +12,8 @@ use Rattle.signed.specs.Entries.{step}
 use Rattle.blocks.specs.Shapes.{Shape, shape}
 use Rattle.blocks.specs.Needed.{needed-le}
 use Rattle.blocks.specs.Turns.{blockHere, deltasHere, refused, never}
-use Rattle.decoding.specs.Passed.{Passed}
-use Rattle.decoding.specs.Written.{places, places-none, places-more, places-one}
+use Rattle.octets.specs.Passed.{Passed}
+use Rattle.octets.specs.Written.{places, places-none, places-more, places-one}
 use Rattle.decoding.specs.Minis.{Judged}
 use Rattle.decoding.specs.Pages.{deltasOf, minisHere, judged, Pass, pass-start, few, pass-next, pass-last, pass-end}
 use Rattle.decoding.proofs.Refused.{unlaid}

@@ -6,9 +6,9 @@ use lib.ListN.{length, drop}
 use borrow.Author.Needs.{needs}
 use Rattle.rules.specs.Signed.{zigzag, modulo}
 use Rattle.words.specs.Puts.{part-rest}
-use Rattle.decoding.specs.Steps.{packedStep}
-use Rattle.decoding.specs.Passed.{Passed}
-use Rattle.decoding.specs.Written.{places, places-none, places-more}
+use Rattle.octets.specs.Steps.{packedStep}
+use Rattle.octets.specs.Passed.{Passed}
+use Rattle.octets.specs.Written.{places, places-none, places-more}
 use Rattle.decoding.specs.Minis.{Judged, widthOf, Turn, turn-start, wanted-here, body-ends, turn-next, turn-end}
 use Rattle.decoding.proofs.placing_blocks.place_block.Statement.{statement}
 use Rattle.decoding.proofs.placing_blocks.place_block.Tie as tie

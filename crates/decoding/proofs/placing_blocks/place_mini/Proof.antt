@@ -4,9 +4,9 @@ use Prim.Native.Nat.{ℕ, _+_, _-_, _%_, _≤_, min}
 use native.Mathlib.Omega.{arith}
 use lib.ListN.{length}
 use borrow.Author.Needs.{needs}
-use Rattle.decoding.specs.Steps.{packedStep}
-use Rattle.decoding.specs.Passed.{Passed, passed-none, passed-eight}
-use Rattle.decoding.specs.Written.{places, places-none, places-more}
+use Rattle.octets.specs.Steps.{packedStep}
+use Rattle.octets.specs.Passed.{Passed, passed-none, passed-eight}
+use Rattle.octets.specs.Written.{places, places-none, places-more}
 use Rattle.decoding.proofs.placing_blocks.place_mini.Statement.{statement}
 use Rattle.decoding.proofs.placing_blocks.place_mini.Tie as tie
 

@@ -11,8 +11,8 @@ use Rattle.compare.specs.Range.{ranged}
 use Rattle.blocks.specs.Shapes.{Shape, shape}
 use Rattle.blocks.specs.Needed.{needed-le}
 use Rattle.blocks.specs.Turns.{blockHere, deltasHere, refused, never}
-use Rattle.decoding.specs.Passed.{Passed}
-use Rattle.decoding.specs.Written.{selects, selects-none, selects-more, selects-bit}
+use Rattle.octets.specs.Passed.{Passed}
+use Rattle.octets.specs.Written.{selects, selects-none, selects-more, selects-bit}
 use Rattle.decoding.specs.Minis.{Judged}
 use Rattle.decoding.specs.Pages.{deltasOf, minisHere, judged, Pass, pass-start, few, pass-next, pass-last, pass-end}
 use Rattle.decoding.proofs.Refused.{unlaid}

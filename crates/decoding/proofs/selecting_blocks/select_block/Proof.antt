@@ -9,9 +9,9 @@ use Rattle.rules.specs.Signed.{zigzag, modulo}
 use Rattle.words.specs.Puts.{part-rest}
 use Rattle.signed.specs.Reached.{reached}
 use Rattle.compare.specs.Range.{ranged}
-use Rattle.decoding.specs.Steps.{packedStep}
-use Rattle.decoding.specs.Passed.{Passed}
-use Rattle.decoding.specs.Written.{selects, selects-none, selects-more}
+use Rattle.octets.specs.Steps.{packedStep}
+use Rattle.octets.specs.Passed.{Passed}
+use Rattle.octets.specs.Written.{selects, selects-none, selects-more}
 use Rattle.decoding.specs.Minis.{Judged, widthOf, Turn, turn-start, wanted-here, body-ends, turn-next, turn-end}
 use Rattle.decoding.proofs.selecting_blocks.select_block.Statement.{statement}
 use Rattle.decoding.proofs.selecting_blocks.select_block.Tie as tie

@@ -5,11 +5,11 @@ use native.Mathlib.Omega.{arith}
 use lib.ListN.{length}
 use borrow.Author.Needs.{needs}
 use Rattle.compare.specs.Range.{ranged}
-use Rattle.decoding.specs.declared.octets.Octet.{Octet}
-use Rattle.decoding.specs.Steps.{packedStep}
-use Rattle.decoding.specs.Passed.{Passed, passed-none}
-use Rattle.decoding.specs.Written.{selects, selects-none}
-use Rattle.decoding.specs.Octets.{octetOf, octet-small, octet-next}
+use Rattle.octets.specs.declared.testing.Octet.{Octet}
+use Rattle.octets.specs.Steps.{packedStep}
+use Rattle.octets.specs.Passed.{Passed, passed-none}
+use Rattle.octets.specs.Written.{selects, selects-none}
+use Rattle.octets.specs.Octets.{octetOf, octet-small, octet-next}
 use Rattle.decoding.proofs.selecting_blocks.select_mini.Statement.{statement}
 use Rattle.decoding.proofs.selecting_blocks.select_mini.Tie as tie
 

@@ -9,9 +9,9 @@ use Rattle.rules.specs.Runs.{runAt}
 use Rattle.rules.specs.declared.Run.the-variants.{Repeated, Packed}
 use Rattle.runs.specs.Shown.{ran-repeated, ran-packed}
 use Rattle.rules.specs.Dictionary.{value}
-use Rattle.streams.specs.Placed.{places, placed, placed-pass, placed-body}
+use Rattle.walks.specs.Placed.{places, placed, placed-pass, placed-body}
 use Rattle.packing.specs.Filled.{body-fits}
-use Rattle.streams.specs.Turns.{onward, begins, on-repeated, on-packed, on-refused, ends}
+use Rattle.walks.specs.Turns.{onward, begins, on-repeated, on-packed, on-refused, ends}
 use Rattle.dictionary.proofs.looking_up.look_up_runs.Statement.{statement}
 use Rattle.dictionary.proofs.looking_up.look_up_runs.Tie as tie
 

@@ -8,7 +8,7 @@ use borrow.Author.Needs.{needs}
 use Rattle.rules.specs.Bits.{put, tabulate}
 use Rattle.rules.specs.Dictionary.{value}
 use Rattle.words.specs.Puts.{part-put}
-use Rattle.streams.specs.Placed.{part-entries}
+use Rattle.walks.specs.Placed.{part-entries}
 use Rattle.dictionary.specs.Values.{listed}
 use Rattle.dictionary.proofs.looking_up.place_part.Statement.{statement}
 use Rattle.dictionary.proofs.looking_up.place_part.Tie as tie

@@ -6,7 +6,7 @@ use native.Mathlib.Omega.{arith}
 use borrow.Author.Needs.{needs}
 use Rattle.rules.specs.Dictionary.{value}
 use Rattle.words.specs.Puts.{part-rest}
-use Rattle.streams.specs.Placed.{placed}
+use Rattle.walks.specs.Placed.{placed}
 use Rattle.dictionary.specs.Values.{good-dictionary}
 use Rattle.indexes.specs.Pages as Pages
 use Rattle.indexes.specs.Pages.{good-page, widthOf, indexes-placed}

@@ -15,7 +15,7 @@ use Rattle.packing.specs.Filled.{body-fits}
 use Rattle.runs.specs.Shown.{ran-repeated, ran-packed}
 use Rattle.runs.specs.Walks.{on-end}
 use Rattle.runs.specs.Second.{judge}
-use Rattle.streams.specs.Turns.{onward, begins, on-repeated, on-packed, ends}
+use Rattle.walks.specs.Turns.{onward, begins, on-repeated, on-packed, ends}
 use Rattle.indexes.specs.Sought.{seeks, sought, sought-pass, seeks-same, seeks-body, judging, judging-begins, judging-repeated, judging-packed, judging-refused, then-sought}
 use Rattle.indexes.proofs.large.runs_fault.Statement.{statement}
 use Rattle.indexes.proofs.large.runs_fault.Tie as tie

@@ -7,7 +7,7 @@ use borrow.Author.Needs.{needs}
 use Rattle.compare.specs.Range.{ranged}
 use Rattle.words.specs.Puts.{part-rest}
 use Rattle.bitmaps.specs.Scans.{scanned-is}
-use Rattle.streams.specs.Marked.{marked}
+use Rattle.walks.specs.Marked.{marked}
 use Rattle.indexes.specs.Pages.{Good, good-page, widthOf, indexes-marked}
 use Rattle.indexes.proofs.pages.scan_range.Statement.{statement}
 use Rattle.indexes.proofs.pages.scan_range.Tie as tie

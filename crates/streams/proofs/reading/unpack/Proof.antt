@@ -9,7 +9,7 @@ use Rattle.rules.specs.Runs as Runs
 use Rattle.rules.specs.Runs.{read, streamFault}
 use Rattle.answers.specs.Laws.{then-found, then-none, then-zero, within-limits, has-room, refused-is, accepted-is}
 use Rattle.words.specs.Tabulated.{length-tabulate}
-use Rattle.streams.specs.Values.{placed-read}
+use Rattle.walks.specs.Values.{placed-read}
 use Rattle.streams.proofs.reading.unpack.Statement.{statement}
 use Rattle.streams.proofs.reading.unpack.Tie as tie
 

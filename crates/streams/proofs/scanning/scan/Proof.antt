@@ -7,7 +7,7 @@ use Rattle.rules.specs.Answer.{limitFault}
 use Rattle.rules.specs.Runs as Runs
 use Rattle.scans.specs.Arguments.{argumentsOf}
 use Rattle.scans.specs.Laws.{scan-bad, unsigned-limits, unsigned-good}
-use Rattle.streams.specs.Values.{entry-small}
+use Rattle.walks.specs.Values.{entry-small}
 use Rattle.streams.proofs.scanning.scan.Statement.{statement}
 use Rattle.streams.proofs.scanning.scan.Tie as tie
 

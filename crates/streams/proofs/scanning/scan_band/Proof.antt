@@ -9,8 +9,8 @@ use Rattle.answers.specs.Laws.{then-zero, has-room, refused-is}
 use Rattle.bitmaps.specs.Scans.{scanned-is}
 use Rattle.compare.specs.Range.{ranged}
 use Rattle.compare.specs.Ranges.{range-fits, range-flip}
-use Rattle.streams.specs.Marked.{marked}
-use Rattle.streams.specs.Values.{marked-banded}
+use Rattle.walks.specs.Marked.{marked}
+use Rattle.walks.specs.Values.{marked-banded}
 use Rattle.streams.proofs.scanning.scan_band.Statement.{statement}
 use Rattle.streams.proofs.scanning.scan_band.Tie as tie
 

@@ -1,0 +1,4 @@
+pub mod Steps
+pub mod Passed
+pub mod Written
+pub mod Octets
