@@ -6,7 +6,6 @@ use native.Mathlib.Omega.{arith}
 use lib.ListN.{length, take, drop, getD, set, length-append, List·getD-append}
 use lib.Seq.{getD-append-add, getD-drop, length-take-le}
 use Rattle.rules.specs.Bits.{tabulate, put}
-use Rattle.words.specs.Puts.{put-longer}
 use Rattle.words.specs.Tabulated.{length-tabulate, tabulate-ext, put-tabulate-add, put-tabulate-at}
 
 -- ---- places that are put, and those behind them
@@ -27,11 +26,6 @@ getD-put-past l vs at k h past =
 pub getD-put-front : (l vs : List ℕ) (k : ℕ) → k < length vs → getD (put l 0 vs) k 0 ≡ getD vs k 0
 unfolding put
 getD-put-front l vs k h = List·getD-append vs (drop (0 + length vs) l) 0 k h
-
--- as many again in their place
-pub put-again : (l a b : List ℕ) → length a ≡ length b → put (put l 0 a) 0 b ≡ put l 0 b
-unfolding put
-put-again l a b e = put-longer l a b 0 (omega arith)
 
 -- ---- one byte more
 

@@ -8,10 +8,11 @@ use lib.ListN.{getD}
 use lib.Pow.{pow-mono}
 use Rattle.rules.specs.Bits.{bit, tabulate, put}
 use Rattle.rules.specs.Vertical.{lane}
+use Rattle.words.specs.Puts.{put-over}
 use Rattle.words.specs.Tabulated.{length-tabulate, getD-tabulate, tabulate-ext}
 use Rattle.lanes.specs.Lanes.{lane-none, lane-lt}
 use Rattle.lanes.specs.Turned.{turned, turned-byte}
-use Rattle.lanes.specs.Rows.{behind, grown, getD-put-front, put-again}
+use Rattle.lanes.specs.Rows.{behind, grown, getD-put-front}
 
 -- n planes more
 pub lane-add : (ps : List ℕ) (at a n j : ℕ) → lane ps at (a + n) j ≡ lane ps at a j * 2 ^ n + lane ps (at + a) n j
@@ -44,7 +45,7 @@ pub next-planes : (planes l : List ℕ) (at n m : ℕ) → at + n ≤ 32 → (0 
     → put (put l 0 (tabulate m (lane planes 0 at))) 0 (tabulate m (λ j. behind (getD (put l 0 (tabulate m (lane planes 0 at))) j 0) (lane planes at n j)))
     ≡ put l 0 (tabulate m (lane planes 0 (at + n)))
 next-planes planes l at n m few eight =
-    put-again l (tabulate m f) (tabulate m g) (length-tabulate m f ∙ sym (length-tabulate m g))
+    put-over l (tabulate m f) (tabulate m g) 0 (omega arith) (omega (arith, length-tabulate m f, length-tabulate m g))
     ∙ ap (put l 0) (tabulate-ext m g (lane planes 0 (at + n)) (λ j h. ap (λ (x : ℕ). behind x (lane planes at n j)) (held j h) ∙ more at n j few eight))
   where
     f : ℕ → ℕ

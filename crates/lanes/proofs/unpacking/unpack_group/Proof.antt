@@ -7,8 +7,8 @@ use lib.ListN.{length}
 use borrow.Author.Needs.{needs}
 use Rattle.rules.specs.Bits.{put, tabulate}
 use Rattle.rules.specs.Vertical.{lane}
+use Rattle.words.specs.Puts.{put-over}
 use Rattle.words.specs.Tabulated.{length-tabulate}
-use Rattle.lanes.specs.Rows.{put-again}
 use Rattle.lanes.specs.Unpacked.{next-planes}
 use Rattle.lanes.proofs.unpacking.unpack_group.Statement.{statement}
 use Rattle.lanes.proofs.unpacking.unpack_group.Tie as tie
@@ -30,7 +30,7 @@ loop-holds c =
     let l = a .entries .now in
     let t : List ℕ = tabulate (a .m) (λ j. 0) in
     let none = c .before .before .clear .ensures in
-    (omega arith, λ h. omega arith, omega arith, none ∙ sym (put-again l t t refl) ∙ ap (λ (k : List ℕ). put k 0 t) (sym none))
+    (omega arith, λ h. omega arith, omega arith, none ∙ sym (put-over l t t 0 (omega arith) (omega arith)) ∙ ap (λ (k : List ℕ). put k 0 t) (sym none))
 
 sub-n : tie.Need-sub-n Inv-loop μ-loop
 sub-n c = search needs
@@ -75,7 +75,7 @@ returns c =
     let u : List ℕ = tabulate (a .m) (lane ps 0 (length ps)) in
     let all : c .before .loop .at ≡ length ps = omega arith in
     c .before .loop .inv .3 ∙ ap (λ (w : ℕ). put (none .last .1 .0) 0 (tabulate (a .m) (lane ps 0 w))) all ∙ ap (λ (k : List ℕ). put k 0 u) (none .ensures)
-    ∙ put-again l t u (length-tabulate (a .m) (λ j. 0) ∙ sym (length-tabulate (a .m) (lane ps 0 (length ps))))
+    ∙ put-over l t u 0 (omega arith) (omega (arith, length-tabulate {A = ℕ} (a .m) (λ j. 0), length-tabulate (a .m) (lane ps 0 (length ps))))
 
 pub unpack-group-spec : {M : Type 1} → statement M
 unpack-group-spec =
