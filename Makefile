@@ -46,7 +46,7 @@ stress: need-cargo need-cc lib
 figures:
 	tools/figures >target/figures.md && mv target/figures.md docs/FIGURES.md
 	sed -i '/^## What was seen/,$$d' docs/SHAMS.md
-	{ echo '## What was seen'; echo; echo 'Printed by `tools/shams-seen` after `make test`: where the prover first refused each.'; echo; tools/shams-seen | sed 's/^/    /'; } >>docs/SHAMS.md
+	{ echo '## What was seen'; echo; echo 'Printed by `tools/shams-seen` after `make test`: what the prover refused of each, without what only waits for that.'; echo; tools/shams-seen | sed 's/^/    /'; } >>docs/SHAMS.md
 
 clean:
 	rm -rf target
