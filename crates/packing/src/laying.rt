@@ -7,7 +7,8 @@ ghost use Rattle.rules.specs.Bits.{put};
 ghost use Rattle.rules.specs.Bits.Order.{lowFirst};
 ghost use Rattle.rules.specs.Answer.{anyLarge};
 ghost use Rattle.rules.specs.Horizontal.{packed, pageBytes};
-use words::bits::append_at;
+use crate::chunks::pack_chunks;
+use crate::chunks::pack_groups;
 
 // The page that the entries make, into its first bytes; the last byte's unused bits are 0.
 pub fn pack(entries: &[u32], w: u32, page: &mut [u8])
@@ -17,11 +18,17 @@ pub fn pack(entries: &[u32], w: u32, page: &mut [u8])
     if w == 0 {
         return;
     }
-    let mut i: usize = 0;
-    while i < entries.len() {
-        append_at(page, i * w as usize, entries[i] as u64, w);
-        i += 1;
-    }
+    let m = entries.len() / 8;
+    let at = m * w as usize;
+    pack_groups(entries, m, w as usize, page);
+    pack_chunks(
+        entries,
+        8 * m,
+        1,
+        entries.len() % 8,
+        w as usize,
+        &mut page[at..],
+    );
 }
 
 // The page that m entries from place p on make, from byte `from` of another on.
