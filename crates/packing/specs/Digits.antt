@@ -1,15 +1,15 @@
 -- A number's digits of d bits, over d: what numbers joined end to end hold at a place, and a number made again of its digits.
 use mathlib.Core.Path.{_≡_, refl, sym, ap, ap₂, _∙_}
 use mathlib.Core.List.{List, [], _∷_, _++_}
-use Prim.Native.Nat.{ℕ, zero, suc, _+_, _*_, _/_, _%_, _^_, _<_}
+use Prim.Native.Nat.{ℕ, zero, suc, _+_, _*_, _/_, _%_, _^_, _≤_, _<_}
 use native.Mathlib.Nat.{add-comm, add-mul, mul-assoc, mul-comm, suc-mul, zero-mul, div-one, mod-one, zero-div, zero-mod}
 use native.Mathlib.Numerals.{add-one}
 use native.Mathlib.Omega.{arith}
-use lib.ListN.{length, take, getD}
-use lib.Seq.{take-suc, length-take-le}
+use lib.ListN.{length, take, drop, getD}
+use lib.Seq.{take-add, take-suc, length-take-le}
 use lib.Pow.{pow-add, shr-shr, high, low, mod-pow-add}
 use Rattle.rules.specs.Bits.{joined, number, bytes, tabulate}
-use Rattle.words.specs.Joined.{Small, joined-lt}
+use Rattle.words.specs.Joined.{Small, small-take, joined-lt}
 use Rattle.words.specs.Tabulated.{tabulate-ext}
 
 -- the first digit, and the digits behind it
@@ -28,13 +28,19 @@ joined-append d (x ∷ a) b =
     let size : 2 ^ (suc (length a) * d) ≡ 2 ^ (length a * d) * 2 ^ d = ap (λ (n : ℕ). 2 ^ n) (suc-mul (length a) d) ∙ pow-add 2 (length a * d) d in
     rw (joined-append d a b, size, add-mul, mul-assoc) (omega arith)
 
--- one number more
+-- k numbers more, and one
+pub joined-more : (d i k : ℕ) (xs : List ℕ) → i ≤ length xs → joined d (take (i + k) xs) ≡ joined d (take k (drop i xs)) * 2 ^ (i * d) + joined d (take i xs)
+joined-more d i k xs h = rw (take-add, joined-append, length-take-le i xs h) (omega arith)
+
 pub joined-next : (d : ℕ) (xs : List ℕ) (i : ℕ) → i < length xs → joined d (take (i + 1) xs) ≡ getD xs i 0 * 2 ^ (i * d) + joined d (take i xs)
 unfolding joined
 joined-next d xs i h = rw (add-one, take-suc xs i 0 h, joined-append, length-take-le i xs (omega arith)) (omega arith)
 
 pub joined-below : (d : ℕ) (xs : List ℕ) → Small d xs → joined d xs < 2 ^ (length xs * d)
 joined-below d xs h = rw mul-comm (joined-lt d xs h)
+
+pub first-below : (d n : ℕ) (xs : List ℕ) → n ≤ length xs → Small d xs → joined d (take n xs) < 2 ^ (n * d)
+first-below d n xs h small = rw (length-take-le n xs h) at (joined-below d (take n xs) (small-take d n xs small))
 
 -- number i is digit i of those joined
 pub joined-digit : (d : ℕ) (xs : List ℕ) (i : ℕ) → Small d xs → joined d xs / 2 ^ (i * d) % 2 ^ d ≡ getD xs i 0

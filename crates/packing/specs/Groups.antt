@@ -14,7 +14,8 @@ use Rattle.words.specs.Bytes.{bytes-mod, bytes-add, pow-256}
 use Rattle.words.specs.Joined.{Small, small-drop}
 use Rattle.words.specs.Puts.{put-over, put-behind}
 use Rattle.words.specs.Tabulated.{length-tabulate, tabulate-ext, put-tabulate-add}
-use Rattle.packing.specs.Packed.{packed-first, length-packed, first-below, joined-more}
+use Rattle.packing.specs.Digits.{joined-more, first-below}
+use Rattle.packing.specs.Packed.{packed-first, length-packed}
 
 -- group g, from byte g × w on, behind those in place
 pub next-group : (l page : List ℕ) (w g at : ℕ) {l₁ l₂ : List ℕ} → 8 * (g + 1) ≤ length l → at ≡ g * w → l₁ ≡ put l 0 (tabulate (8 * g) (entry lowFirst page w))
@@ -27,24 +28,27 @@ next-group l page w g at h here first second =
     tabulate-ext 8 (λ j. field lowFirst page (8 * at + j * w) w) (λ j. f (8 * g + j)) (λ j _. ap (λ (k : ℕ). field lowFirst page k w) (place j)) in
     second ∙ ap₂ (λ (s t : List ℕ). put s (8 * g) t) first group ∙ put-tabulate-add l (8 * g) 8 f (omega arith) ∙ ap (λ (n : ℕ). put l 0 (tabulate n f)) more
 
--- the page of g groups, and behind it that of the m entries behind them
+-- ---- the page of g groups, and behind it that of the m entries behind them
+
+pub bytes-behind : (w g m : ℕ) → pageBytes w (8 * g + m) ≡ g * w + pageBytes w m
+bytes-behind w g m = omega (arith, add-mul (8 * g) m w, mul-assoc 8 g w)
+
 packed-groups : (w g m : ℕ) (xs : List ℕ) → 8 * g + m ≤ length xs → Small w xs
     → packed lowFirst w (take (8 * g + m) xs) ≡ packed lowFirst w (take (8 * g) xs) ++ packed lowFirst w (take m (drop (8 * g) xs))
 packed-groups w g m xs h small =
     let n : ℕ = g * w in
-    let a : List ℕ = take (8 * g) xs in
-    let b : List ℕ = take m (drop (8 * g) xs) in
-    let size : length a ≡ 8 * g = length-take-le (8 * g) xs (omega arith) in
+    let a : ℕ = joined w (take (8 * g) xs) in
+    let b : ℕ = joined w (take m (drop (8 * g) xs)) in
     let bits : 8 * g * w ≡ 8 * n = mul-assoc 8 g w in
-    let whole : joined w (take (8 * g + m) xs) ≡ joined w b * 2 ^ (8 * n) + joined w a = rw (← bits) (joined-more w (8 * g) m xs h small) in
-    let below : joined w a < 2 ^ (8 * n) = rw (← bits) (first-below w (8 * g) m xs h small) in
-    let first : bytes n (joined w b * 2 ^ (8 * n) + joined w a) ≡ bytes n (joined w a) =
-    sym (bytes-mod n _) ∙ ap (bytes n) (rw pow-256 (low (joined w b) (8 * n) below)) in
-    packed-first w (8 * g + m) xs h small ∙ ap₂ bytes (omega (arith, add-mul (8 * g) m w)) whole ∙ bytes-add n (pageBytes w m) _
-    ∙ ap₂ _++_ (first ∙ sym (packed-first w (8 * g) xs (omega arith) small ∙ ap (λ (k : ℕ). bytes k (joined w a)) (omega arith)))
-    (rw (pow-256, high (joined w b) (8 * n) below) (sym (packed-first w m (drop (8 * g) xs) (rw length-drop (omega arith)) (small-drop w (8 * g) xs small))))
+    let whole : joined w (take (8 * g + m) xs) ≡ b * 2 ^ (8 * n) + a = rw (← bits) (joined-more w (8 * g) m xs (omega arith)) in
+    let below : a < 2 ^ (8 * n) = rw (← bits) (first-below w (8 * g) xs (omega arith) small) in
+    let first : bytes n (b * 2 ^ (8 * n) + a) ≡ packed lowFirst w (take (8 * g) xs) =
+    sym (bytes-mod n (b * 2 ^ (8 * n) + a)) ∙ rw (pow-256, low b (8 * n) below) (sym (packed-first w (8 * g) xs (omega arith) small ∙ ap (λ (k : ℕ). bytes k a) (omega arith))) in
+    let rest : bytes (pageBytes w m) ((b * 2 ^ (8 * n) + a) / 256 ^ n) ≡ packed lowFirst w (take m (drop (8 * g) xs)) =
+    rw (pow-256, high b (8 * n) below) (sym (packed-first w m (drop (8 * g) xs) (rw length-drop (omega arith)) (small-drop w (8 * g) xs small))) in
+    packed-first w (8 * g + m) xs h small ∙ ap₂ bytes (bytes-behind w g m) whole ∙ bytes-add n (pageBytes w m) (b * 2 ^ (8 * n) + a) ∙ ap₂ _++_ first rest
 
--- m entries from place 8 × g on, whose page goes behind that of the groups
+-- the groups' page is in place, and the other is put behind it
 pub laid-behind : (l xs : List ℕ) (w g m at : ℕ) {l₁ l₂ : List ℕ} → 8 * g + m ≤ length xs → Small w xs → at ≡ g * w → g * w + pageBytes w m ≤ length l
     → l₁ ≡ put l 0 (packed lowFirst w (take (8 * g) xs)) → l₂ ≡ put l₁ at (packed lowFirst w (take m (drop (8 * g) xs))) → l₂ ≡ put l 0 (packed lowFirst w (take (8 * g + m) xs))
 laid-behind l xs w g m at h small here room first second =
@@ -54,6 +58,8 @@ laid-behind l xs w g m at h small here room first second =
     let long : length a ≡ g * w = length-packed lowFirst w (take (8 * g) xs) ∙ rw size (omega (arith, mul-assoc 8 g w)) in
     let more : length b ≡ pageBytes w m = length-packed lowFirst w (take m (drop (8 * g) xs)) ∙ ap (pageBytes w) (length-take-le m (drop (8 * g) xs) (rw length-drop (omega arith))) in
     put-behind l 0 a b first (omega arith) second (omega arith) ∙ ap (put l 0) (sym (packed-groups w g m xs h small))
+
+-- ---- how many groups there is room for
 
 -- where q groups reach too far, there are fewer, and they do not
 pub fewer-groups : (len w q : ℕ) → 8 ≤ len → len < q * w + 8 → (0 < w) × ((len - 8) / w ≤ q) × ((len - 8) / w * w + 8 ≤ len)

@@ -1,18 +1,18 @@
 -- The page that entries make is the bytes of one number, the entries joined; and how it grows by entries.
 use mathlib.Core.Path.{_≡_, sym, ap, _∙_}
 use mathlib.Core.List.{List, []}
-use Prim.Native.Nat.{ℕ, zero, suc, _+_, _*_, _^_, _≤_, _<_}
+use Prim.Native.Nat.{ℕ, zero, suc, _+_, _*_, _≤_}
 use native.Mathlib.Nat.{mul-zero, add-mul}
 use native.Mathlib.Omega.{arith}
 use lib.ListN.{length, take, drop}
-use lib.Seq.{length-take-le, take-add}
+use lib.Seq.{length-take-le}
 use Rattle.rules.specs.Bits.{Order, ceil, tabulate, put, bytes, joined, entryByte}
 use Rattle.rules.specs.Bits.Order.{lowFirst}
 use Rattle.rules.specs.Horizontal.{packed, pageBytes}
 use Rattle.words.specs.Joined.{Small, small-take, piece-joined}
 use Rattle.words.specs.Appended.{appended, appended-bits}
 use Rattle.words.specs.Tabulated.{length-tabulate, tabulate-ext}
-use Rattle.packing.specs.Digits.{digit, bytes-digits, joined-append, joined-below}
+use Rattle.packing.specs.Digits.{digit, bytes-digits, joined-more, first-below}
 
 pub length-packed : (o : Order) (w : ℕ) (xs : List ℕ) → length (packed o w xs) ≡ pageBytes w (length xs)
 unfolding packed
@@ -37,17 +37,9 @@ pub packed-first : (w n : ℕ) (xs : List ℕ) → n ≤ length xs → Small w x
 packed-first w n xs h small =
     packed-joined w (take n xs) (small-take w n xs small) ∙ ap (λ (k : ℕ). bytes (pageBytes w k) (joined w (take n xs))) (length-take-le n xs h)
 
--- ---- entries behind those that are laid
-
-module _ (w i k : ℕ) (xs : List ℕ) (h : i + k ≤ length xs) (small : Small w xs) where
-  pub first-below : joined w (take i xs) < 2 ^ (i * w)
-  first-below = rw (length-take-le i xs (omega arith)) at (joined-below w (take i xs) (small-take w i xs small))
-
-  pub joined-more : joined w (take (i + k) xs) ≡ joined w (take k (drop i xs)) * 2 ^ (i * w) + joined w (take i xs)
-  joined-more = rw (take-add, joined-append, length-take-le i xs (omega arith)) (omega arith)
-
-  -- i entries are laid, and k more as one number behind them
-  pub laid-more : (l : List ℕ) → appended (put l 0 (packed lowFirst w (take i xs))) (i * w) (joined w (take k (drop i xs))) (k * w) ≡ put l 0 (packed lowFirst w (take (i + k) xs))
-  laid-more l =
-      rw (packed-first w i xs (omega arith) small, packed-first w (i + k) xs h small, joined-more, add-mul)
-      (appended-bits l (i * w) (k * w) (joined w (take i xs)) (joined w (take k (drop i xs))) first-below)
+-- i entries are laid, and k more as one number behind them
+pub laid-more : (l xs : List ℕ) (w i k : ℕ) → i + k ≤ length xs → Small w xs
+    → appended (put l 0 (packed lowFirst w (take i xs))) (i * w) (joined w (take k (drop i xs))) (k * w) ≡ put l 0 (packed lowFirst w (take (i + k) xs))
+laid-more l xs w i k h small =
+    rw (packed-first w i xs (omega arith) small, packed-first w (i + k) xs h small, joined-more w i k xs (omega arith), add-mul)
+    (appended-bits l (i * w) (k * w) (joined w (take i xs)) (joined w (take k (drop i xs))) (first-below w i xs (omega arith) small))

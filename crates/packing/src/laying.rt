@@ -8,7 +8,7 @@ ghost use Rattle.rules.specs.Bits.Order.{lowFirst};
 ghost use Rattle.rules.specs.Answer.{anyLarge};
 ghost use Rattle.rules.specs.Horizontal.{packed, pageBytes};
 use crate::chunks::pack_chunks;
-use crate::chunks::pack_groups;
+use crate::widths::pack_of_width;
 
 // The page that the entries make, into its first bytes; the last byte's unused bits are 0.
 pub fn pack(entries: &[u32], w: u32, page: &mut [u8])
@@ -20,7 +20,7 @@ pub fn pack(entries: &[u32], w: u32, page: &mut [u8])
     }
     let m = entries.len() / 8;
     let at = m * w as usize;
-    pack_groups(entries, m, w as usize, page);
+    pack_of_width(entries, m, w as usize, page);
     pack_chunks(
         entries,
         8 * m,

@@ -1,9 +1,13 @@
-// A copy of the groups' loop for each width: with a literal width its shifts and masks are constants.
+// A copy of the groups' loop for each width, there and back: with a literal width its shifts and masks are constants.
 ghost use mathlib.Core.Path.{_≡_};
-ghost use Prim.Native.Nat.{_+_, _*_, _≤_};
-ghost use lib.ListN.{length};
+ghost use mathlib.Core.Bool.{false};
+ghost use Prim.Native.Nat.{_+_, _*_, _≤_, _<_};
+ghost use lib.ListN.{length, take};
 ghost use Rattle.rules.specs.Bits.{entry, put, tabulate};
 ghost use Rattle.rules.specs.Bits.Order.{lowFirst};
+ghost use Rattle.rules.specs.Answer.{anyLarge};
+ghost use Rattle.rules.specs.Horizontal.{packed};
+use crate::chunks::pack_groups;
 use crate::groups::unpack_groups;
 
 // The first m groups of eight entries, into the first 8 × m places.
@@ -46,5 +50,47 @@ pub fn unpack_of_width(page: &[u8], m: usize, w: usize, entries: &mut [u32])
         31 => unpack_groups(page, m, 31, entries),
         32 => unpack_groups(page, m, 32, entries),
         _ => unpack_groups(page, m, w, entries),
+    }
+}
+
+// The page that the first m groups make, into the page's first bytes.
+pub fn pack_of_width(entries: &[u32], m: usize, w: usize, page: &mut [u8])
+    requires { ⌜ (0 < w) × (w ≤ 32) × (8 * m ≤ length (now entries)) × (anyLarge w (now entries) ≡ false) × (m * w ≤ length (now page)) ⌝ }
+    ensures { λ _. ⌜ now (page .exit) ≡ put (now (page .entry)) 0 (packed lowFirst w (take (8 * m) (now (entries .entry)))) ⌝ }
+{
+    match w {
+        1 => pack_groups(entries, m, 1, page),
+        2 => pack_groups(entries, m, 2, page),
+        3 => pack_groups(entries, m, 3, page),
+        4 => pack_groups(entries, m, 4, page),
+        5 => pack_groups(entries, m, 5, page),
+        6 => pack_groups(entries, m, 6, page),
+        7 => pack_groups(entries, m, 7, page),
+        8 => pack_groups(entries, m, 8, page),
+        9 => pack_groups(entries, m, 9, page),
+        10 => pack_groups(entries, m, 10, page),
+        11 => pack_groups(entries, m, 11, page),
+        12 => pack_groups(entries, m, 12, page),
+        13 => pack_groups(entries, m, 13, page),
+        14 => pack_groups(entries, m, 14, page),
+        15 => pack_groups(entries, m, 15, page),
+        16 => pack_groups(entries, m, 16, page),
+        17 => pack_groups(entries, m, 17, page),
+        18 => pack_groups(entries, m, 18, page),
+        19 => pack_groups(entries, m, 19, page),
+        20 => pack_groups(entries, m, 20, page),
+        21 => pack_groups(entries, m, 21, page),
+        22 => pack_groups(entries, m, 22, page),
+        23 => pack_groups(entries, m, 23, page),
+        24 => pack_groups(entries, m, 24, page),
+        25 => pack_groups(entries, m, 25, page),
+        26 => pack_groups(entries, m, 26, page),
+        27 => pack_groups(entries, m, 27, page),
+        28 => pack_groups(entries, m, 28, page),
+        29 => pack_groups(entries, m, 29, page),
+        30 => pack_groups(entries, m, 30, page),
+        31 => pack_groups(entries, m, 31, page),
+        32 => pack_groups(entries, m, 32, page),
+        _ => pack_groups(entries, m, w, page),
     }
 }

@@ -5,13 +5,13 @@ use Prim.Native.Nat.{ℕ, _+_, _-_, _*_, _%_, _^_, _≤_, _<_}
 use native.Mathlib.Nat.{lt-of-lt-of-le, add-mul}
 use native.Mathlib.Omega.{arith}
 use lib.ListN.{length, take, drop, getD, length-drop}
-use lib.Seq.{length-take-le, getD-drop}
+use lib.Seq.{getD-drop}
 use lib.Pow.{pow-mono, shl-exact}
 use borrow.Author.Needs.{needs}
 use Rattle.rules.specs.Bits.{joined}
 use Rattle.words.specs.Entries.{place-within}
-use Rattle.words.specs.Joined.{Small, small-take, small-drop}
-use Rattle.packing.specs.Digits.{joined-next, joined-below}
+use Rattle.words.specs.Joined.{Small, small-drop}
+use Rattle.packing.specs.Digits.{joined-next, first-below}
 use Rattle.packing.specs.Large.{small-of}
 use Rattle.packing.proofs.chunks.chunk.Statement.{statement}
 use Rattle.packing.proofs.chunks.chunk.Tie as tie
@@ -22,14 +22,12 @@ module _ (xs : List ℕ) (i k w j : ℕ) (few : k * w ≤ 56) (there : i + k ≤
   entry-more =
       let more = joined-next w (drop i xs) j (rw length-drop (omega arith)) in
       let same = getD-drop i xs j 0 in
-      let whole : (getD xs (i + j) 0 * 2 ^ (j * w)) % 2 ^ 64 ≡ getD xs (i + j) 0 * 2 ^ (j * w) = shl-exact w (j * w) 64 (small (i + j)) (omega (arith, place-within w j k l)) in
-      rw (whole, more, same) (omega arith)
+      rw (shl-exact w (j * w) 64 (small (i + j)) (omega (arith, place-within w j k l)), more, same) (omega arith)
 
   -- and there are at most 56 bits
   more-below : joined w (take (j + 1) (drop i xs)) < 2 ^ 56
   more-below =
-      let size : length (take (j + 1) (drop i xs)) ≡ j + 1 = length-take-le (j + 1) (drop i xs) (rw length-drop (omega arith)) in
-      lt-of-lt-of-le (rw size at (joined-below w (take (j + 1) (drop i xs)) (small-take w (j + 1) (drop i xs) (small-drop w i xs small))))
+      lt-of-lt-of-le (first-below w (j + 1) (drop i xs) (rw length-drop (omega arith)) (small-drop w i xs small))
       (pow-mono {i = (j + 1) * w} {j = 56} (omega (arith, place-within w j k l, add-mul j 1 w)))
 
 abbrev Inv-loop : tie.InvT-loop

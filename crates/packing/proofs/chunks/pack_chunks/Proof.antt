@@ -1,19 +1,19 @@
 -- `packing::chunks::pack_chunks` meets its contract: each turn lays k entries, as one number, behind those that are laid.
-use mathlib.Core.Path.{_≡_, sym, ap, _∙_}
+use mathlib.Core.Path.{_≡_, _∙_}
 use mathlib.Core.List.{[]}
-use Prim.Native.Nat.{ℕ, _+_, _-_, _*_, _^_, _≤_, _<_}
+use Prim.Native.Nat.{_+_, _-_, _*_, _≤_}
 use native.Mathlib.Nat.{add-mul, mul-assoc, mul-le-mul, mul-pos, one-mul, zero-mul}
 use native.Mathlib.Omega.{arith}
 use lib.ListN.{length, take, drop, length-drop}
-use lib.Seq.{length-take-le, drop-drop}
+use lib.Seq.{drop-drop}
 use borrow.Author.Needs.{needs}
-use Rattle.rules.specs.Bits.{put, joined}
+use Rattle.rules.specs.Bits.{put}
 use Rattle.rules.specs.Bits.Order.{lowFirst}
 use Rattle.rules.specs.Horizontal.{packed}
 use Rattle.words.specs.Entries.{place-within}
-use Rattle.words.specs.Joined.{Small, small-take, small-drop}
+use Rattle.words.specs.Joined.{small-drop}
 use Rattle.words.specs.Puts.{put-none}
-use Rattle.packing.specs.Digits.{joined-below}
+use Rattle.packing.specs.Digits.{first-below}
 use Rattle.packing.specs.Large.{small-of}
 use Rattle.packing.specs.Packed.{packed-none, laid-more}
 use Rattle.packing.proofs.chunks.pack_chunks.Statement.{statement}
@@ -64,12 +64,11 @@ append-at-requires c κs =
     let a = s .args in
     let j = c .before .before .before .loop .j in
     let place = place-within (a .k) j (a .c) (omega arith) in
-    let xs = drop (a .i + j * a .k) (a .entries .now) in
-    let small = small-drop (a .w) (a .i + j * a .k) (a .entries .now) (small-of (a .w) (a .entries .now) (s .pre .5)) in
-    let size : length (take (a .k) xs) ≡ a .k = length-take-le (a .k) xs (rw length-drop (omega arith)) in (
+    let at = a .i + j * a .k in
+    let small = small-drop (a .w) at (a .entries .now) (small-of (a .w) (a .entries .now) (s .pre .5)) in (
       omega arith,
       mul-pos (s .pre .1) (s .pre .2),
-      rw (c .chunk .ensures) (rw size at (joined-below (a .w) (take (a .k) xs) (small-take (a .w) (a .k) xs small))),
+      rw (c .chunk .ensures) (first-below (a .w) (a .k) (drop at (a .entries .now)) (rw length-drop (omega arith)) small),
       omega (arith, place-within (a .k * a .w) j (a .c) (omega arith), mul-assoc (a .c) (a .k) (a .w)),
     )
 
@@ -92,7 +91,7 @@ loop-again c =
       laid .kept .0 ∙ l .inv .1,
       laid .ensures
           ∙ rw (l .inv .2, c .before .before .before .chunk .ensures, ← (drop-drop (l .j * a .k) (a .i) (a .entries .now)), ← (mul-assoc (l .j) (a .k) (a .w)), add-mul (l .j) 1 (a .k), one-mul)
-          (laid-more (a .w) (l .j * a .k) (a .k) xs there small (a .part .now)),
+          (laid-more (a .part .now) xs (a .w) (l .j * a .k) (a .k) there small),
     )
 
 same-length : tie.Need-same-length Inv-loop μ-loop

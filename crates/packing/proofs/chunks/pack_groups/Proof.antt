@@ -1,14 +1,14 @@
 -- `packing::chunks::pack_groups` meets its contract: each turn lays a group's page behind those of the groups before it.
-use mathlib.Core.Path.{_≡_, sym, ap, _∙_}
+use mathlib.Core.Path.{_≡_, ap, _∙_}
 use mathlib.Core.List.{[]}
-use Prim.Native.Nat.{ℕ, _+_, _-_, _*_, _/_, _≤_, _<_}
+use Prim.Native.Nat.{ℕ, _+_, _-_, _*_, _≤_}
 use native.Mathlib.Nat.{add-mul, div-le-self, zero-mul}
 use native.Mathlib.Omega.{arith}
-use lib.ListN.{length, take, drop, length-drop}
+use lib.ListN.{length, take, length-drop}
 use borrow.Author.Needs.{needs}
 use Rattle.rules.specs.Bits.{put}
 use Rattle.rules.specs.Bits.Order.{lowFirst}
-use Rattle.rules.specs.Horizontal.{packed, pageBytes}
+use Rattle.rules.specs.Horizontal.{packed}
 use Rattle.words.specs.Entries.{place-within}
 use Rattle.words.specs.Puts.{put-none, part-put, part-rest}
 use Rattle.packing.specs.Groups.{laid-behind}

@@ -1,16 +1,16 @@
 -- `packing::laying::pack` meets its contract: the groups' page, and behind it that of the entries that are left.
 use mathlib.Core.Path.{_≡_, refl, sym, ap, _∙_}
 use Prim.Native.Nat.{ℕ, _+_, _*_, _/_, _%_}
-use native.Mathlib.Nat.{add-mul, mul-assoc, mul-le-mul, mul-one, mul-zero, one-mul}
+use native.Mathlib.Nat.{mul-le-mul, mul-one, mul-zero, one-mul}
 use native.Mathlib.Omega.{arith}
-use lib.ListN.{length, take, drop, length-drop}
+use lib.ListN.{length, take, length-drop}
 use lib.Seq.{take-all}
 use borrow.Author.Needs.{needs}
 use Rattle.rules.specs.Bits.{put}
 use Rattle.rules.specs.Bits.Order.{lowFirst}
 use Rattle.rules.specs.Horizontal.{packed, pageBytes}
 use Rattle.words.specs.Puts.{put-none, part-put, part-rest}
-use Rattle.packing.specs.Groups.{laid-behind}
+use Rattle.packing.specs.Groups.{bytes-behind, laid-behind}
 use Rattle.packing.specs.Large.{small-of}
 use Rattle.packing.specs.Packed.{packed-none}
 use Rattle.packing.proofs.laying.pack.Statement.{statement}
@@ -20,7 +20,7 @@ use Rattle.packing.proofs.laying.pack.Tie as tie
 bytes-of-both : (w n : ℕ) → pageBytes w n ≡ n / 8 * w + pageBytes w (n % 8)
 bytes-of-both w n =
     let both : n ≡ 8 * (n / 8) + n % 8 = omega arith in
-    ap (pageBytes w) both ∙ omega (arith, add-mul (8 * (n / 8)) (n % 8) w, mul-assoc 8 (n / 8) w)
+    ap (pageBytes w) both ∙ bytes-behind w (n / 8) (n % 8)
 
 returns : tie.Need-returns
 returns c =
@@ -33,8 +33,8 @@ mul-at c =
     let a = c .before .before .before .args in
     omega (arith, mul-le-mul {n₁ = length (a .entries .now) / 8} {m₁ = a .w} {n₂ = 2048} {m₂ = 32} (omega arith) (omega arith))
 
-pack-groups-requires : tie.Need-pack-groups-requires
-pack-groups-requires c κs =
+pack-of-width-requires : tie.Need-pack-of-width-requires
+pack-of-width-requires c κs =
     let s = c .before .before .before .before in
     let a = s .args in
     (omega (arith, c .before .if1 .left), omega arith, omega arith, s .pre .2, omega (arith, bytes-of-both (a .w) (length (a .entries .now))))
@@ -72,7 +72,7 @@ returns-2 c =
     let a = s .args in
     let xs = a .entries .now in
     let n = length xs in
-    let groups = c .before .before .before .before .before .before .pack-groups in
+    let groups = c .before .before .before .before .before .before .pack-of-width in
     let whole : take (8 * (n / 8) + n % 8) xs ≡ xs = take-all (8 * (n / 8) + n % 8) xs (omega arith) in
     laid-behind (a .page .now) xs (a .w) (n / 8) (n % 8) (n / 8 * a .w) (omega arith) (small-of (a .w) xs (s .pre .2)) refl (omega (arith, bytes-of-both (a .w) n)) (groups .ensures)
     (rw mul-one at (part-put (groups .last .1 .1 .1 .0) _ _ (n / 8 * a .w) (c .before .before .pack-chunks .ensures)))
@@ -84,7 +84,7 @@ pack-spec =
     (tie.spec
     returns
     mul-at
-    pack-groups-requires
+    pack-of-width-requires
     mul-pack-chunks
     sub-pack-chunks
     part-pack-chunks-start
