@@ -10,10 +10,10 @@ use days::picture;
 use days::seconds::entries_of;
 use days::seconds::needed;
 use days::seconds::start_of;
+use dictionary::judging::dictionary_fault;
 use libc::STDERR_FILENO;
 use pages::answering;
 use pages::layouts::Question;
-use pages::layouts::is_dictionary;
 use questions::comparisons;
 use questions::comparisons::Comparison;
 use questions::comparisons::place;
@@ -21,6 +21,8 @@ use questions::files;
 use questions::options::Asked;
 use questions::options::MOST;
 use questions::options::sorted_out;
+use telling::Sentence;
+use telling::tell;
 
 // Bytes of a full page's bitmap.
 const BITMAP: usize = 2048;
@@ -35,7 +37,7 @@ pub fn asked(layout: u32) {
         return;
     }
     if needs_width(layout) && !asked.has_width {
-        telling::no_width();
+        tell(Sentence::NoWidth);
         return;
     }
     let comparison = comparisons::at_end(&words, asked.words);
@@ -65,12 +67,12 @@ fn split(q: Question, asked: Asked, taken: usize, words: &[usize]) {
     let first = (q.layout == DICTIONARY) as usize;
     let last = before_comparison(asked.words, taken, words);
     if last <= first {
-        telling::no_pages(first);
+        tell(Sentence::NoPages(first));
         return;
     }
     let entries = column_entries(asked, last - first - 1);
     if needed(entries) < last - first {
-        telling::many_pages(entries, last - first);
+        tell(Sentence::ManyPages(entries, last - first));
         return;
     }
     with_dictionary(q, asked, entries, place(words, 0), &words[first..last]);
@@ -111,9 +113,10 @@ fn with_dictionary(q: Question, asked: Asked, entries: usize, at: usize, files: 
     if !files::ended(fd, at) {
         return;
     }
-    if !is_dictionary(&dictionary[..n]) {
-        telling::refused(at, 14);
-        telling::say(b"Without its dictionary no page is answered.");
+    let fault = dictionary_fault(&dictionary[..n]);
+    if fault != 0 {
+        tell(Sentence::Refused(at, fault));
+        tell(Sentence::NoDictionary);
         return;
     }
     with_bitmap(q, asked, entries, &dictionary[..n], files);
@@ -154,8 +157,8 @@ fn told(q: Question, asked: Asked, entries: usize, dictionary: &[u8], files: &[u
         sentence.end();
         picture::drawn(entries, &answered, &selected);
     }
-    telling::lost(day.lost);
-    telling::missing(entries, files.len());
+    tell(Sentence::Lost(day.lost));
+    tell(Sentence::Missing(entries, files.len()));
 }
 
 // The pages one after the other.

@@ -5,6 +5,8 @@ use asking::names::PLANES;
 use days::seconds::bitmap_bytes;
 use questions::files;
 use rules::Answer;
+use telling::Sentence;
+use telling::tell;
 
 // No accepted page has as many bytes.
 const BYTES: usize = 163840;
@@ -21,7 +23,7 @@ pub fn answered(q: Question, dictionary: &[u8], at: usize, n: usize, bitmap: &mu
         return false;
     }
     if q.layout == PLANES && size % 8 != 0 {
-        telling::no_words(at);
+        tell(Sentence::NoWords(at));
         return false;
     }
     is_accepted(layouts::scan(q, dictionary, &page[..size], n, bitmap), at)
@@ -31,7 +33,7 @@ fn is_accepted(answer: Answer, at: usize) -> bool {
     if answer.code == 0 {
         return true;
     }
-    telling::refused(at, answer.code);
+    tell(Sentence::Refused(at, answer.code));
     false
 }
 

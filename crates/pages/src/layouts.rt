@@ -38,12 +38,6 @@ pub fn scan(q: Question, dictionary: &[u8], page: &[u8], n: usize, bitmap: &mut 
     }
 }
 
-// Is a dictionary good: the page of no entries is refused only for what is wrong with it.
-pub fn is_dictionary(bytes: &[u8]) -> bool {
-    let mut none = [0u8; 0];
-    dictionary::scanning::scan(bytes, &[0], 0, 0, 0, 0, &mut none).code == 0
-}
-
 // As many words as a page's room has.
 const WORDS: usize = 20480;
 

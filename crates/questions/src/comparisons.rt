@@ -8,6 +8,8 @@ use asking::names::operator;
 use asking::names::operator_number;
 use asking::numbers::Constant;
 use asking::numbers::read_constant;
+use telling::Sentence;
+use telling::tell;
 
 // Operator number and constants, and how many words they took: 0 where there is no comparison.
 pub struct Comparison {
@@ -17,7 +19,9 @@ pub struct Comparison {
     pub words: usize,
 }
 
-fn nothing() -> Comparison {
+// No comparison, and why.
+fn none(sentence: Sentence) -> Comparison {
+    tell(sentence);
     Comparison {
         op: 0,
         a: 0,
@@ -62,15 +66,9 @@ fn is_constant(at: usize) -> bool {
     }
 }
 
-// A constant that is no number is said.
-fn told(at: usize) -> Comparison {
-    telling::no_constant(at);
-    nothing()
-}
-
 fn with_one(op: u32, first: usize) -> Comparison {
     let Constant::Is(a) = constant_at(first) else {
-        return told(first);
+        return none(Sentence::NoConstant(first));
     };
     Comparison {
         op: op,
@@ -82,10 +80,10 @@ fn with_one(op: u32, first: usize) -> Comparison {
 
 fn with_two(op: u32, first: usize, second: usize) -> Comparison {
     let Constant::Is(a) = constant_at(first) else {
-        return told(first);
+        return none(Sentence::NoConstant(first));
     };
     let Constant::Is(b) = constant_at(second) else {
-        return told(second);
+        return none(Sentence::NoConstant(second));
     };
     Comparison {
         op: op,
@@ -98,8 +96,7 @@ fn with_two(op: u32, first: usize, second: usize) -> Comparison {
 // The last of m words, or their last three.
 pub fn at_end(words: &[usize], m: usize) -> Comparison {
     if m < 2 {
-        telling::no_comparison();
-        return nothing();
+        return none(Sentence::NoComparison);
     }
     let second = place(words, m - 1);
     let first = place(words, m - 2);
@@ -117,8 +114,7 @@ pub fn at_end(words: &[usize], m: usize) -> Comparison {
 fn longer(before: usize, first: usize, second: usize) -> Comparison {
     let op = named_at(before);
     if op < BETWEEN {
-        telling::one_constant(before);
-        return nothing();
+        return none(Sentence::OneConstant(before));
     }
     if op != NO_OPERATOR {
         return with_two(op, first, second);
@@ -136,21 +132,22 @@ fn by_number(before: usize, first: usize, second: usize) -> Comparison {
     if op < BETWEEN && (before == 0 || files::is_there(before)) {
         return with_one(op, second);
     }
-    wrong(before, first, second)
+    none(wrong(before, first, second))
 }
 
-// The word that is most likely meant as the operator, and what is wrong with it.
-fn wrong(before: usize, first: usize, second: usize) -> Comparison {
+// What is wrong with the word that is most likely meant as the operator.
+fn wrong(before: usize, first: usize, second: usize) -> Sentence {
     if named_at(second) != NO_OPERATOR {
-        telling::bare_operator(second);
-    } else if named_at(first) != NO_OPERATOR {
-        telling::two_constants(first);
-    } else if before != 0 && is_constant(first) && !files::is_there(before) {
-        telling::wrong_operator(before);
-    } else if numbered_at(first) != NO_OPERATOR {
-        telling::two_constants(first);
-    } else {
-        telling::wrong_operator(first);
+        return Sentence::BareOperator(second);
     }
-    nothing()
+    if named_at(first) != NO_OPERATOR {
+        return Sentence::TwoConstants(first);
+    }
+    if before != 0 && is_constant(first) && !files::is_there(before) {
+        return Sentence::WrongOperator(before);
+    }
+    if numbered_at(first) != NO_OPERATOR {
+        return Sentence::TwoConstants(first);
+    }
+    Sentence::WrongOperator(first)
 }

@@ -1,4 +1,7 @@
 // Files named by arguments.
+use telling::Sentence;
+use telling::tell;
+
 // A file opened for reading, or below 0 where it cannot be, which is said.
 pub fn opened(at: usize) -> i32 {
     let mut name = io::buffer();
@@ -32,7 +35,7 @@ pub fn ended(fd: i32, at: usize) -> bool {
         os::fail(&name[..n]);
     }
     if got > 0 {
-        telling::too_long(at);
+        tell(Sentence::TooLong(at));
     }
     libc::close(fd);
     got == 0

@@ -8,6 +8,8 @@ use asking::names::is_option;
 use asking::names::option;
 use asking::numbers::Count;
 use asking::numbers::read_count;
+use telling::Sentence;
+use telling::tell;
 
 // At most so many words are taken, the program's name among them.
 pub const MOST: usize = 1024;
@@ -48,45 +50,10 @@ impl Asked {
         }
     }
 
-    fn spoiled(mut self) -> Asked {
+    // Not as it should be, which is said.
+    fn spoiled(mut self, sentence: Sentence) -> Asked {
+        tell(sentence);
         self.wrong = true;
-        self
-    }
-
-    fn waiting(mut self, option: u32, at: usize) -> Asked {
-        self.waits = option;
-        self.option = at;
-        self
-    }
-
-    fn listing(mut self) -> Asked {
-        self.numbers = true;
-        self
-    }
-
-    // The number of the option that waits for one.
-    fn numbered(mut self, n: u32) -> Asked {
-        let option = self.waits;
-        self.waits = NO_OPTION;
-        match option {
-            WIDTH => {
-                self.width = n;
-                self.has_width = true;
-            }
-            ENTRIES => {
-                self.entries = n;
-            }
-            _ => {
-                self.last = n;
-                self.has_last = true;
-            }
-        }
-        self
-    }
-
-    fn file(mut self, at: usize) -> Asked {
-        self.waits = NO_OPTION;
-        self.bitmap = at;
         self
     }
 
@@ -107,8 +74,7 @@ pub fn sorted_out(words: &mut [usize]) -> Asked {
     let all = os::arg_count();
     let mut asked = Asked::new();
     if MOST < all {
-        telling::say(b"scan: at most 1023 words are taken after the program's name.");
-        return asked.spoiled();
+        return asked.spoiled(Sentence::ManyWords);
     }
     let mut at: usize = 2;
     while at < all {
@@ -118,47 +84,66 @@ pub fn sorted_out(words: &mut [usize]) -> Asked {
     finished(asked)
 }
 
-fn argument(asked: Asked, at: usize, words: &mut [usize]) -> Asked {
+fn argument(mut asked: Asked, at: usize, words: &mut [usize]) -> Asked {
     if asked.wrong {
         return asked;
     }
     let mut word = io::buffer();
     let n = os::arg(at, &mut word);
     if os::errno() != 0 {
-        os::fail(b"scan: a word is too long");
-        return asked.spoiled();
+        return asked.spoiled(Sentence::LongWord);
     }
     let option = asked.waits;
     match option {
         NO_OPTION => opened(asked, at, &word[..n], words),
-        BITMAP => asked.file(at),
+        BITMAP => {
+            asked.waits = NO_OPTION;
+            asked.bitmap = at;
+            asked
+        }
         _ => number(asked, &word[..n]),
     }
 }
 
-// An option's number.
-fn number(asked: Asked, word: &[u8]) -> Asked {
+// The number of the option that waits for one.
+fn number(mut asked: Asked, word: &[u8]) -> Asked {
     let Count::Is(n) = read_count(word) else {
-        telling::no_count(asked.option);
-        return asked.spoiled();
+        return asked.spoiled(Sentence::NoCount(asked.option));
     };
-    asked.numbered(n)
+    let option = asked.waits;
+    asked.waits = NO_OPTION;
+    match option {
+        WIDTH => {
+            asked.width = n;
+            asked.has_width = true;
+        }
+        ENTRIES => {
+            asked.entries = n;
+        }
+        _ => {
+            asked.last = n;
+            asked.has_last = true;
+        }
+    }
+    asked
 }
 
 // A word by itself: an option, or one of the words left.
-fn opened(asked: Asked, at: usize, word: &[u8], words: &mut [usize]) -> Asked {
+fn opened(mut asked: Asked, at: usize, word: &[u8], words: &mut [usize]) -> Asked {
     if !is_option(word) {
         return asked.word(at, words);
     }
     let named = option(word);
     if named == NUMBERS {
-        return asked.listing();
+        asked.numbers = true;
+        return asked;
     }
     if named == NO_OPTION {
-        telling::unknown_option(word);
-        return asked.spoiled();
+        return asked.spoiled(Sentence::UnknownOption(at));
     }
-    asked.waiting(named, at)
+    asked.waits = named;
+    asked.option = at;
+    asked
 }
 
 // No option may be left without what it waits for, and no page has more than 16,384 entries.
@@ -167,17 +152,12 @@ fn finished(asked: Asked) -> Asked {
         return asked;
     }
     if 16384 < asked.last {
-        telling::say(b"scan: --last takes at most 16384, the entries of a full page.");
-        return asked.spoiled();
+        return asked.spoiled(Sentence::LongLast);
     }
     let option = asked.waits;
-    if option == NO_OPTION {
-        return asked;
+    match option {
+        NO_OPTION => asked,
+        BITMAP => asked.spoiled(Sentence::NoFile(asked.option)),
+        _ => asked.spoiled(Sentence::NoCount(asked.option)),
     }
-    if option == BITMAP {
-        telling::no_file(asked.option);
-    } else {
-        telling::no_count(asked.option);
-    }
-    asked.spoiled()
 }

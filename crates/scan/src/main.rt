@@ -4,6 +4,8 @@ use asking::names::is_help;
 use asking::names::layout;
 use libc::STDERR_FILENO;
 use libc::STDOUT_FILENO;
+use telling::Sentence;
+use telling::tell;
 
 fn main() {
     let mut word = io::buffer();
@@ -23,7 +25,7 @@ fn asked(word: &[u8]) {
     }
     let named = layout(word);
     if named == NO_LAYOUT {
-        telling::wrong_layout(word);
+        tell(Sentence::WrongLayout);
         return;
     }
     clerk::asked(named);

@@ -4,146 +4,129 @@ use days::seconds;
 use libc::STDERR_FILENO;
 use lines::Line;
 
-pub fn say(words: &[u8]) {
+// A number by itself is a word's place on the command line.
+pub enum Sentence {
+    ManyWords,
+    LongWord,
+    WrongLayout,
+    UnknownOption(usize),
+    NoCount(usize),
+    NoFile(usize),
+    LongLast,
+    NoWidth,
+    // of the comparison
+    NoComparison,
+    WrongOperator(usize),
+    BareOperator(usize),
+    OneConstant(usize),
+    TwoConstants(usize),
+    NoConstant(usize),
+    // of pages and dictionaries
+    // how many dictionaries stand before them
+    NoPages(usize),
+    TooLong(usize),
+    NoWords(usize),
+    // a word's place, and the code
+    Refused(usize, u32),
+    NoDictionary,
+    // the entries, and more pages than they need
+    ManyPages(usize, usize),
+    // how many pages are not in the answer, if any
+    Lost(usize),
+    // the entries, and the pages, if they are fewer than needed
+    Missing(usize, usize),
+}
+
+pub fn tell(sentence: Sentence) {
+    match sentence {
+        Sentence::ManyWords => say(b"scan: at most 1023 words are taken after the program's name."),
+        Sentence::LongWord => os::fail(b"scan: a word is too long"),
+        Sentence::WrongLayout => {
+            about(1, b" is no layout: the first word is one of these.");
+            layouts(STDERR_FILENO);
+        }
+        Sentence::UnknownOption(at) => {
+            about(at, b" is no option: these are.");
+            options(STDERR_FILENO);
+        }
+        Sentence::NoCount(at) => about(
+            at,
+            b" needs a whole number behind it, from 0 to 4294967295.",
+        ),
+        Sentence::NoFile(at) => about(at, b" needs the name of a file behind it."),
+        Sentence::LongLast => say(b"scan: --last takes at most 16384, the entries of a full page."),
+        Sentence::NoWidth => say(
+            b"scan: this layout needs the width of its entries: add --width and 0 to 32.",
+        ),
+        _ => tell_of_comparison(sentence),
+    }
+}
+
+fn tell_of_comparison(sentence: Sentence) {
+    match sentence {
+        Sentence::NoComparison => {
+            say(b"scan: name the page files and then the comparison, as in: between 110 420");
+            operators(STDERR_FILENO);
+        }
+        Sentence::WrongOperator(at) => about_operator(
+            at,
+            b" is no operator: the words end with one and its constants, as in: between 110 420",
+        ),
+        Sentence::BareOperator(at) => about_operator(at, b" needs its constant behind it."),
+        Sentence::OneConstant(at) => about_operator(
+            at,
+            b" takes one constant: leave out the other.",
+        ),
+        Sentence::TwoConstants(at) => about_operator(at, b" takes two constants: add the other."),
+        Sentence::NoConstant(at) => about(
+            at,
+            b" is no number: a constant is a whole number of at most 64 bits, as -40 or 420.",
+        ),
+        _ => tell_of_pages(sentence),
+    }
+}
+
+// The one that is left is NoDictionary.
+fn tell_of_pages(sentence: Sentence) {
+    match sentence {
+        Sentence::NoPages(dictionaries) => no_pages(dictionaries),
+        Sentence::TooLong(at) => about(at, b": longer than any page or dictionary, and not read."),
+        Sentence::NoWords(at) => about(
+            at,
+            b": not read: bit planes are words of 8 bytes, and its length is no multiple of 8.",
+        ),
+        Sentence::Refused(at, code) => refused(at, code),
+        Sentence::ManyPages(entries, pages) => many_pages(entries, pages),
+        Sentence::Lost(pages) => lost(pages),
+        Sentence::Missing(entries, pages) => missing(entries, pages),
+        _ => say(b"Without its dictionary no page is answered."),
+    }
+}
+
+fn say(words: &[u8]) {
     io::write_all(STDERR_FILENO, words);
     io::write_all(STDERR_FILENO, b"\n");
 }
 
-// A word as it was typed, and what is said of it.
-fn about(word: &[u8], words: &[u8]) {
-    io::write_all(STDERR_FILENO, word);
+// A word as it was typed.
+fn typed(at: usize) {
+    let mut word = io::buffer();
+    let n = os::arg(at, &mut word);
+    io::write_all(STDERR_FILENO, &word[..n]);
+}
+
+// A word, and what is said of it.
+fn about(at: usize, words: &[u8]) {
+    typed(at);
     say(words);
 }
 
-fn about_place(at: usize, words: &[u8]) {
-    let mut word = io::buffer();
-    let n = os::arg(at, &mut word);
-    about(&word[..n], words);
-}
-
-pub fn usage(fd: i32) {
-    io::write_all(
-        fd,
-        b"usage: scan LAYOUT [OPTION...] PAGE... OPERATOR CONSTANT [CONSTANT]\n",
-    );
-    io::write_all(
-        fd,
-        b"Says which seconds of a column satisfy a comparison, and draws the day. As in\n",
-    );
-    io::write_all(fd, b"  scan delta level-*.delta between 110 420\n");
-    io::write_all(
-        fd,
-        b"  scan dictionary landing.dict landing-*.idx equal 4\n",
-    );
-    io::write_all(fd, b"  scan runs --width 3 calls-*.runs at-least 1\n");
-    layouts(fd);
-    operators(fd);
-    options(fd);
-}
-
-fn layouts(fd: i32) {
-    io::write_all(
-        fd,
-        b"Layouts: horizontal, planes, runs (these need --width), delta, dictionary (its\n",
-    );
-    io::write_all(fd, b"  first file is the dictionary).\n");
-}
-
-fn operators(fd: i32) {
-    io::write_all(
-        fd,
-        b"Operators: equal, not-equal, less, at-most, greater, at-least with one constant,\n",
-    );
-    io::write_all(
-        fd,
-        b"  between, not-between with two; or their numbers, 0 to 7.\n",
-    );
-}
-
-fn options(fd: i32) {
-    io::write_all(
-        fd,
-        b"Options:\n  --width N      bits of an entry, 0 to 32\n",
-    );
-    io::write_all(
-        fd,
-        b"  --entries N    entries of the whole column, 86400 if not given; a page has 16384\n",
-    );
-    io::write_all(
-        fd,
-        b"  --last N       entries of the last page instead; all others have 16384\n",
-    );
-    io::write_all(
-        fd,
-        b"  --bitmap FILE  writes the bitmap of all pages there\n",
-    );
-    io::write_all(
-        fd,
-        b"  --numbers      the numbers of the selected seconds instead of the picture\n",
-    );
-}
-
-pub fn wrong_layout(word: &[u8]) {
-    about(word, b" is no layout: the first word is one of these.");
-    layouts(STDERR_FILENO);
-}
-
-pub fn unknown_option(word: &[u8]) {
-    about(word, b" is no option: these are.");
-    options(STDERR_FILENO);
-}
-
-pub fn no_count(option: usize) {
-    about_place(
-        option,
-        b" needs a whole number behind it, from 0 to 4294967295.",
-    );
-}
-
-pub fn no_file(option: usize) {
-    about_place(option, b" needs the name of a file behind it.");
-}
-
-pub fn no_width() {
-    say(b"scan: this layout needs the width of its entries: add --width and 0 to 32.");
-}
-
-pub fn no_comparison() {
-    say(b"scan: name the page files and then the comparison, as in: between 110 420");
+fn about_operator(at: usize, words: &[u8]) {
+    about(at, words);
     operators(STDERR_FILENO);
 }
 
-pub fn wrong_operator(at: usize) {
-    about_place(
-        at,
-        b" is no operator: the words end with one and its constants, as in: between 110 420",
-    );
-    operators(STDERR_FILENO);
-}
-
-pub fn bare_operator(at: usize) {
-    about_place(at, b" needs its constant behind it.");
-    operators(STDERR_FILENO);
-}
-
-pub fn one_constant(at: usize) {
-    about_place(at, b" takes one constant: leave out the other.");
-    operators(STDERR_FILENO);
-}
-
-pub fn two_constants(at: usize) {
-    about_place(at, b" takes two constants: add the other.");
-    operators(STDERR_FILENO);
-}
-
-pub fn no_constant(at: usize) {
-    about_place(
-        at,
-        b" is no number: a constant is a whole number of at most 64 bits, as -40 or 420.",
-    );
-}
-
-pub fn no_pages(dictionaries: usize) {
+fn no_pages(dictionaries: usize) {
     if dictionaries == 0 {
         say(b"scan: no page files: name them in order before the comparison.");
     } else {
@@ -153,36 +136,8 @@ pub fn no_pages(dictionaries: usize) {
     }
 }
 
-// More pages than the entries need.
-pub fn many_pages(entries: usize, pages: usize) {
-    Line::new()
-        .words(b"scan: ")
-        .number(entries as u64)
-        .words(b" entries are on ")
-        .number(seconds::needed(entries) as u64)
-        .words(b" pages at most, and ")
-        .number(pages as u64)
-        .words(b" files are named.")
-        .write(STDERR_FILENO);
-    say(b"Give the column's entries with --entries, or the last page's with --last.");
-}
-
-pub fn too_long(at: usize) {
-    about_place(at, b": longer than any page or dictionary, and not read.");
-}
-
-pub fn no_words(at: usize) {
-    about_place(
-        at,
-        b": not read: bit planes are words of 8 bytes, and its length is no multiple of 8.",
-    );
-}
-
-// A page's or a dictionary's code.
-pub fn refused(at: usize, code: u32) {
-    let mut word = io::buffer();
-    let n = os::arg(at, &mut word);
-    io::write_all(STDERR_FILENO, &word[..n]);
+fn refused(at: usize, code: u32) {
+    typed(at);
     io::write_all(STDERR_FILENO, b": refused with code ");
     io::print_decimal(STDERR_FILENO, code as u64);
     io::write_all(STDERR_FILENO, b": ");
@@ -226,12 +181,23 @@ fn layout_meaning(code: u32) {
     }
 }
 
-// How many pages are not in the answer.
-pub fn lost(pages: usize) {
+fn many_pages(entries: usize, pages: usize) {
+    Line::new()
+        .words(b"scan: ")
+        .number(entries as u64)
+        .words(b" entries are on ")
+        .number(seconds::needed(entries) as u64)
+        .words(b" pages at most, and ")
+        .number(pages as u64)
+        .words(b" files are named.")
+        .write(STDERR_FILENO);
+    say(b"Give the column's entries with --entries, or the last page's with --last.");
+}
+
+fn lost(pages: usize) {
     if pages == 1 {
         say(b"1 page was refused or not read: its seconds are not in the answer.");
-    }
-    if 1 < pages {
+    } else if 1 < pages {
         Line::new()
             .number(pages as u64)
             .words(b" pages were refused or not read: their seconds are not in the answer.")
@@ -239,12 +205,53 @@ pub fn lost(pages: usize) {
     }
 }
 
-// Fewer pages than the entries need.
-pub fn missing(entries: usize, pages: usize) {
+fn missing(entries: usize, pages: usize) {
     if pages < seconds::needed(entries) {
         let line = Line::new().words(b"No page is named for the seconds from ");
         clock(line, seconds::start_of(pages))
             .words(b" on: they are not in the answer.")
             .write(STDERR_FILENO);
     }
+}
+
+pub fn usage(fd: i32) {
+    io::write_all(
+        fd,
+        b"usage: scan LAYOUT [OPTION...] PAGE... OPERATOR CONSTANT [CONSTANT]\n\
+        Says which seconds of a column satisfy a comparison, and draws the day. As in\n\
+        \x20 scan delta level-*.delta between 110 420\n\
+        \x20 scan dictionary landing.dict landing-*.idx equal 4\n\
+        \x20 scan runs --width 3 calls-*.runs at-least 1\n",
+    );
+    layouts(fd);
+    operators(fd);
+    options(fd);
+}
+
+fn layouts(fd: i32) {
+    io::write_all(
+        fd,
+        b"Layouts: horizontal, planes, runs (these need --width), delta, dictionary (its\n\
+        \x20 first file is the dictionary).\n",
+    );
+}
+
+fn operators(fd: i32) {
+    io::write_all(
+        fd,
+        b"Operators: equal, not-equal, less, at-most, greater, at-least with one constant,\n\
+        \x20 between, not-between with two; or their numbers, 0 to 7.\n",
+    );
+}
+
+fn options(fd: i32) {
+    io::write_all(
+        fd,
+        b"Options:\n\
+        \x20 --width N      bits of an entry, 0 to 32\n\
+        \x20 --entries N    entries of the whole column, 86400 if not given; a page has 16384\n\
+        \x20 --last N       entries of the last page instead; all others have 16384\n\
+        \x20 --bitmap FILE  writes the bitmap of all pages there\n\
+        \x20 --numbers      the numbers of the selected seconds instead of the picture\n",
+    );
 }

@@ -18,12 +18,6 @@ arg-count-requires c κs = search needs
 new-requires : tie.Need-new-requires Inv-loop μ-loop
 new-requires c κs = search needs
 
-slice-aggregate-say : tie.Need-slice-aggregate-say Inv-loop μ-loop
-slice-aggregate-say c = search needs
-
-say-requires : tie.Need-say-requires Inv-loop μ-loop
-say-requires c κs = search needs
-
 spoiled-requires : tie.Need-spoiled-requires Inv-loop μ-loop
 spoiled-requires c κs = search needs
 
@@ -62,8 +56,6 @@ sorted-out-spec =
     μ-loop
     arg-count-requires
     new-requires
-    slice-aggregate-say
-    say-requires
     spoiled-requires
     returns
     loop-holds
