@@ -1,132 +1,126 @@
-//! The best Rust that we know for the job: several entries of a word compared at once, each in a lane with room for a
-//! carry, by constants for each width; 64 unpacked and compared where lanes are too wide. The entries are a multiple of 64.
+//! The best Rust that we know for the job: entries compared in the lanes of a word, and unpacked and packed with constant
+//! shifts, straight from the page and straight to the place they go to. The entries are a multiple of 64.
 
-use super::parquet_way::{unpack64, word_of};
-use crate::column::of_each_width;
+use super::lanes::{word_of_tests, Band};
+use super::parquet_way::unpack64;
+use crate::column::{of_each_width, with_0_to_63};
 
-/// What the lanes of a word are compared with: bit W of `a + ge` and bit W of `le - a` say whether an entry is inside.
-#[derive(Clone, Copy)]
-struct Ends {
-    ge: u64,
-    le: u64,
-}
-
-impl Ends {
-    fn of<const W: usize>(low: u32, span: u32, ones: u64) -> Ends {
-        let (p, low) = (1u64 << W, u64::from(low));
-        let high = low + u64::from(span);
-        Ends {
-            ge: (p - low.min(p)) * ones,
-            le: (p + high.min(p - 1)) * ones,
-        }
-    }
-
-    #[inline(always)]
-    fn inside<const W: usize>(self, a: u64, ones: u64) -> u64 {
-        ((a + self.ge) & (self.le - a)) >> W & ones
-    }
-}
-
-/// A lane of D bits for every second entry of W bits: 1 in each of the lanes that 4 × W or 8 × W bits have.
-const fn ones(d: usize, lanes: usize) -> u64 {
-    let mut ones = 0;
-    let mut i = 0;
-    while i < lanes {
-        ones |= 1 << (i * d);
-        i += 1;
-    }
-    ones
-}
-
-/// Bits 2 × i and 2 × i + 1 of lane i are those of the entries 2 × i and 2 × i + 1.
-#[inline(always)]
-fn pairs<const W: usize>(x: u64, ends: Ends, ones: u64) -> u64 {
-    let even = ((1 << W) - 1) * ones;
-    ends.inside::<W>(x & even, ones) + ends.inside::<W>(x >> W & even, ones) * 2
-}
-
-/// The word of eight bytes at a place.
-///
-/// # Safety
-///
-/// Eight bytes are there.
-#[inline(always)]
-unsafe fn word(page: *const u8, at: usize) -> u64 {
-    // SAFETY: the caller says so, and no alignment is asked.
-    u64::from_le(unsafe { page.add(at).cast::<u64>().read_unaligned() })
-}
-
-/// The bits of the eight entries of W bits from a place on.
-///
-/// # Safety
-///
-/// W + 8 bytes are there, and W is at most 28.
-#[inline(always)]
-unsafe fn eight<const W: usize>(page: *const u8, low: u32, span: u32) -> u8 {
-    // SAFETY: each window of eight bytes begins within the W bytes of the group.
-    unsafe {
-        if W <= 8 {
-            let ones = ones(2 * W, 4);
-            let y = pairs::<W>(word(page, 0), Ends::of::<W>(low, span, ones), ones);
-            let twos = 3 | 3 << (4 * W % 64);
-            let z = (y & twos) + (y >> (2 * W) & twos) * 4;
-            (z % 16 + (z >> (4 * W)) * 16) as u8
-        } else if W <= 16 {
-            let ones = ones(2 * W, 2);
-            let ends = Ends::of::<W>(low, span, ones);
-            let four = |x| {
-                let y = pairs::<W>(x, ends, ones);
-                (y + (y >> (2 * W - 2))) % 16
-            };
-            (four(word(page, 0)) + four(word(page, W / 2) >> (4 * W % 8)) * 16) as u8
-        } else {
-            let ones = ones(W + 1, 2);
-            let ends = Ends::of::<W>(low, span, ones);
-            let two = |b: usize| {
-                let y = word(page, b / 8) >> (b % 8) & ((1 << (2 * W % 64)) - 1);
-                ends.inside::<W>(y + (y >> W << W), ones)
-            };
-            let y = two(0) + two(2 * W) * 4 + two(4 * W) * 16 + two(6 * W) * 64;
-            (y + (y >> W)) as u8
-        }
-    }
-}
-
-/// Eight entries at once.
-fn select_lanes<const W: usize>(page: &[u8], low: u32, span: u32, bitmap: &mut [u8]) -> usize {
+/// 64 entries at once, compared in lanes.
+fn select_lanes<const W: usize>(page: &[u8], band: Band<W>, bitmap: &mut [u8]) -> usize {
     let mut count = 0;
-    for (g, byte) in bitmap.iter_mut().enumerate() {
-        // SAFETY: `select` leaves the groups out whose windows pass the page's end.
-        *byte = unsafe { eight::<W>(page.as_ptr().add(g * W), low, span) };
-        count += byte.count_ones() as usize;
-    }
-    count
-}
-
-/// 64 entries at once, unpacked.
-fn select_unpacked<const W: usize>(page: &[u8], low: u32, span: u32, bitmap: &mut [u8]) -> usize {
-    let mut count = 0;
-    for (group, eight) in page.chunks_exact(8 * W).zip(bitmap.chunks_exact_mut(8)) {
-        // SAFETY: the group has 8 × W bytes.
-        let word = word_of(&unsafe { unpack64::<W>(group.as_ptr()) }, low, span);
+    for (g, eight) in bitmap.chunks_exact_mut(8).enumerate() {
+        // SAFETY: `select` leaves the last groups out, whose windows pass the page's end.
+        let word = unsafe { band.some(page.as_ptr().add(8 * W * g), 8) };
         eight.copy_from_slice(&word.to_le_bytes());
         count += word.count_ones() as usize;
     }
     count
 }
 
-fn select<const W: usize>(page: &[u8], low: u32, span: u32, bitmap: &mut [u8]) -> usize {
-    if W > 28 {
-        return select_unpacked::<W>(page, low, span, bitmap);
+/// 64 entries at once, unpacked.
+fn select_unpacked<const W: usize>(page: &[u8], band: Band<W>, bitmap: &mut [u8]) -> usize {
+    let mut count = 0;
+    for (group, eight) in page.chunks_exact(8 * W).zip(bitmap.chunks_exact_mut(8)) {
+        // SAFETY: the group has 8 × W bytes.
+        let entries = unsafe { unpack64::<W>(group.as_ptr()) };
+        let word = word_of_tests(&entries, |entry| band.has(entry));
+        eight.copy_from_slice(&word.to_le_bytes());
+        count += word.count_ones() as usize;
+    }
+    count
+}
+
+fn select<const W: usize>(page: &[u8], low: u32, high: u32, bitmap: &mut [u8]) -> usize {
+    let band = Band::<W>::of(low, high);
+    if W > 30 {
+        return select_unpacked(page, band, bitmap);
     }
     let (most, rest) = bitmap.split_at_mut(bitmap.len() - 8);
     let end = &page[most.len() * W..];
-    select_lanes::<W>(page, low, span, most) + select_unpacked::<W>(end, low, span, rest)
+    select_lanes(page, band, most) + select_unpacked(end, band, rest)
 }
 
 /// Selects the entries from low to high, and counts them. The width is 1 to 32.
 pub fn scan(page: &[u8], width: u32, low: u32, high: u32, bitmap: &mut [u8]) -> usize {
     type Select = fn(&[u8], u32, u32, &mut [u8]) -> usize;
     const SELECTS: [Select; 32] = of_each_width!(select as Select);
-    SELECTS[width as usize - 1](page, low, high - low, bitmap)
+    SELECTS[width as usize - 1](page, low, high, bitmap)
+}
+
+/// Unpacks groups of 64.
+fn unpack_all<const W: usize>(page: &[u8], entries: &mut [u32]) {
+    let groups = page.chunks_exact(8 * W);
+    for (group, places) in groups.zip(entries.chunks_exact_mut(64)) {
+        match W {
+            8 => places
+                .iter_mut()
+                .zip(group)
+                .for_each(|(to, &from)| *to = from.into()),
+            16 => {
+                let (twos, _) = group.as_chunks();
+                let entries = twos.iter().map(|&two| u16::from_le_bytes(two));
+                places
+                    .iter_mut()
+                    .zip(entries)
+                    .for_each(|(to, from)| *to = from.into());
+            }
+            32 => {
+                let (fours, _) = group.as_chunks();
+                let entries = fours.iter().map(|&four| u32::from_le_bytes(four));
+                places
+                    .iter_mut()
+                    .zip(entries)
+                    .for_each(|(to, from)| *to = from);
+            }
+            // SAFETY: the group has 8 × W bytes.
+            _ => places.copy_from_slice(&unsafe { unpack64::<W>(group.as_ptr()) }),
+        }
+    }
+}
+
+/// Unpacks and counts the entries. The width is 1 to 32.
+pub fn unpack(page: &[u8], width: u32, entries: &mut [u32]) -> usize {
+    type Unpack = fn(&[u8], &mut [u32]);
+    const UNPACKS: [Unpack; 32] = of_each_width!(unpack_all as Unpack);
+    UNPACKS[width as usize - 1](page, entries);
+    entries.len()
+}
+
+/// Entry I of 64 into the words that it stands in: all shifts are constants once W and I are.
+#[inline(always)]
+fn put<const W: usize, const I: usize>(entries: &[u32; 64], words: &mut [u64; 32]) {
+    let (first, shift, entry) = (I * W / 64, I * W % 64, u64::from(entries[I]));
+    words[first] |= entry << shift;
+    if shift + W > 64 {
+        words[first + 1] |= entry >> (64 - shift);
+    }
+}
+
+/// 64 entries in W words, the first of 32.
+#[inline(always)]
+pub fn pack64<const W: usize>(entries: &[u32; 64]) -> [u64; 32] {
+    let mut words = [0; 32];
+    macro_rules! put_all {
+        ($($i:literal)*) => { $(put::<W, $i>(entries, &mut words);)* };
+    }
+    with_0_to_63!(put_all);
+    words
+}
+
+fn pack_all<const W: usize>(entries: &[u32], page: &mut [u8]) {
+    let (groups, _) = entries.as_chunks();
+    for (group, bytes) in groups.iter().zip(page.chunks_exact_mut(8 * W)) {
+        for (eight, word) in bytes.chunks_exact_mut(8).zip(pack64::<W>(group)) {
+            eight.copy_from_slice(&word.to_le_bytes());
+        }
+    }
+}
+
+/// Packs the entries, and gives the length written if all are below 2^width. The width is 1 to 32.
+pub fn pack(entries: &[u32], width: u32, page: &mut [u8]) -> Option<usize> {
+    type Pack = fn(&[u32], &mut [u8]);
+    const PACKS: [Pack; 32] = of_each_width!(pack_all as Pack);
+    let seen = entries.iter().fold(0, |seen, entry| seen | entry);
+    PACKS[width as usize - 1](entries, page);
+    (u64::from(seen) >> width == 0).then_some(entries.len() / 8 * width as usize)
 }

@@ -1,6 +1,8 @@
 //! Bare horizontal pages: scan at every width, unpack and pack at some.
 
-mod best;
+pub mod best;
+pub mod bit_writer;
+pub mod lanes;
 mod obvious;
 pub mod parquet_way;
 
@@ -14,25 +16,16 @@ use crate::table::{Measured, Table};
 
 /// Prints all tables, and gives those to be drawn.
 pub fn report() -> Vec<Table> {
-    println!(
-        "\nobvious: safe Rust, one entry after another, each through a window of eight bytes."
-    );
-    println!("parquet way: unpacked 64 at once with constant shifts, 1,024 into a list; then compared, 64 to a word of the bitmap.");
-    println!("best: unsafe Rust, several entries compared at once in the lanes of a word, by constants for each width.");
-    let scans = Table::of(
-        "Horizontal scan, 16,384 entries, a band of half the numbers",
-        &["obvious", "parquet way", "best"],
-        1..=32,
-        scan,
-    );
-    Table::of(
-        "Horizontal unpack, 16,384 entries",
-        &["obvious", "parquet way"],
-        SOME_WIDTHS,
-        unpack,
-    );
+    println!("\nobvious: safe Rust, one entry after another, each through a window of eight bytes; packed byte by byte.");
+    println!("parquet way: unpacked 64 at once with constant shifts, 1,024 into a list; then compared, 64 to a word of the bitmap. Packed by its bit writer, entry by entry, eight bytes when they are full.");
+    println!("best: unsafe Rust, several entries compared at once in the lanes of a word, by constants for each width; unpacked and packed with constant shifts.");
+    let others = &["obvious", "parquet way", "best"];
+    let title = "Horizontal scan, 16,384 entries, a band of half the numbers";
+    let scans = Table::of(title, others, 1..=32, scan);
+    let title = "Horizontal unpack, 16,384 entries";
+    Table::of(title, others, SOME_WIDTHS, unpack);
     let title = "Horizontal pack, 16,384 entries";
-    Table::of(title, &["obvious"], SOME_WIDTHS, pack);
+    Table::of(title, others, SOME_WIDTHS, pack);
     vec![scans]
 }
 
@@ -62,7 +55,9 @@ fn unpack(width: u32) -> Measured {
     };
     let obvious = |list: &mut [u32]| obvious::unpack(black_box(&page), width, list);
     let parquet_way = |list: &mut [u32]| parquet_way::unpack(black_box(&page), width, list);
-    let raced = race(width, &[0xA5; ENTRIES], &[&ours, &obvious, &parquet_way]);
+    let best = |list: &mut [u32]| best::unpack(black_box(&page), width, list);
+    let ways: [Way<u32>; 4] = [&ours, &obvious, &parquet_way, &best];
+    let raced = race(width, &[0xA5; ENTRIES], &ways);
     assert_eq!(raced.written, entries(width), "width {width}");
     raced.measured
 }
@@ -75,6 +70,13 @@ fn pack(width: u32) -> Measured {
     let obvious = |page: &mut [u8]| {
         obvious::pack(black_box(&entries), width, page).expect("the entries fit the width")
     };
+    let parquet_way = |page: &mut [u8]| {
+        parquet_way::pack(black_box(&entries), width, page).expect("the entries fit the width")
+    };
+    let best = |page: &mut [u8]| {
+        best::pack(black_box(&entries), width, page).expect("the entries fit the width")
+    };
     let room = vec![0xA5; page(width).len()];
-    race(width, &room, &[&ours, &obvious]).measured
+    let ways: [Way<u8>; 4] = [&ours, &obvious, &parquet_way, &best];
+    race(width, &room, &ways).measured
 }

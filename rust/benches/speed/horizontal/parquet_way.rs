@@ -1,7 +1,8 @@
 //! As the parquet and arrow crates do it: entries unpacked 64 at once with constant shifts into a batch, and the batch
-//! compared, 64 entries to a word of the bitmap. The entries are a multiple of 64.
+//! compared, 64 entries to a word of the bitmap; packed by a bit writer. The entries read are a multiple of 64.
 
-use crate::column::of_each_width;
+use super::bit_writer::BitWriter;
+use crate::column::{of_each_width, with_0_to_63};
 
 /// Word i of eight bytes, low byte first.
 ///
@@ -43,12 +44,7 @@ pub unsafe fn unpack64<const W: usize>(page: *const u8) -> [u32; 64] {
             unsafe { [$(entry::<W, $i>(page)),*] }
         };
     }
-    entries!(
-        0 1 2 3 4 5 6 7 8 9 10 11 12 13 14 15
-        16 17 18 19 20 21 22 23 24 25 26 27 28 29 30 31
-        32 33 34 35 36 37 38 39 40 41 42 43 44 45 46 47
-        48 49 50 51 52 53 54 55 56 57 58 59 60 61 62 63
-    )
+    with_0_to_63!(entries)
 }
 
 /// Bit i is set if entry i is selected. A byte at a time is twice as fast as one chain of 64 bits.
@@ -107,4 +103,15 @@ pub fn unpack(page: &[u8], width: u32, entries: &mut [u32]) -> usize {
     const UNPACKS: [Unpack; 32] = of_each_width!(unpack_groups as Unpack);
     UNPACKS[width as usize - 1](page, entries);
     entries.len()
+}
+
+/// Packs the entries, and gives the length written if all are below 2^width.
+pub fn pack(entries: &[u32], width: u32, page: &mut [u8]) -> Option<usize> {
+    let mut writer = BitWriter::to(page);
+    let mut seen = 0;
+    for &entry in entries {
+        seen |= entry;
+        writer.put(entry, width);
+    }
+    (u64::from(seen) >> width == 0).then_some(writer.flush())
 }
