@@ -1,6 +1,6 @@
-//! The scan of Polychroniou and Ross, "Efficient Lightweight Compression Alongside Fast Scans", section 4.4, in
-//! safe Rust. Its output counter moves once a group here, and it counts as the library does; all else is as
-//! printed.
+//! The scalar listings of Polychroniou and Ross, "Efficient Lightweight Compression Alongside Fast Scans", sections 4.1
+//! and 4.4, in safe Rust. The scan's output counter moves once a group here, and it counts as the library does; pack
+//! stores the high planes first, as its text says; all else is as printed.
 
 /// Selects the entries from `min` to `max`, and counts them. With `EARLY`, a group is left once all its lanes
 /// are settled, as printed; without, all planes are read. The width is 1 to 32.
@@ -39,4 +39,36 @@ pub fn scan<const EARLY: bool>(
         count += selected.count_ones() as usize;
     }
     count
+}
+
+/// Unpacks and counts the entries, each built of one bit from each of its group's words.
+pub fn unpack(packed: &[u64], bits: u32, unpacked: &mut [u32]) -> usize {
+    let groups = packed.chunks_exact(bits as usize);
+    for (group, codes) in groups.zip(unpacked.chunks_exact_mut(64)) {
+        for (b, place) in codes.iter_mut().enumerate() {
+            let mut code = 0;
+            for word in group {
+                code = 2 * code + (word >> b & 1);
+            }
+            *place = code as u32;
+        }
+    }
+    unpacked.len()
+}
+
+/// Packs the entries, each word built of one bit from each of its group's entries. Gives the length written if all are
+/// below 2^bits.
+pub fn pack(unpacked: &[u32], bits: u32, packed: &mut [u64]) -> Option<usize> {
+    let seen = unpacked.iter().fold(0, |seen, code| seen | code);
+    let groups = packed.chunks_exact_mut(bits as usize);
+    for (group, codes) in groups.zip(unpacked.chunks_exact(64)) {
+        for (b, place) in group.iter_mut().rev().enumerate() {
+            let mut word = 0u64;
+            for code in codes.iter().rev() {
+                word = word.wrapping_add(word) + u64::from(code >> b & 1);
+            }
+            *place = word;
+        }
+    }
+    (u64::from(seen) >> bits == 0).then_some(packed.len())
 }
