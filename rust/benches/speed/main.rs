@@ -1,6 +1,7 @@
 //! The library's speed beside Rust loops for the same job, as tables for docs/BENCHMARKS.md and, in target/speed.svg,
 //! as its picture. It prints and asserts nothing about time. A layout is a module here, with its own rows.
 
+mod bits;
 mod clock;
 mod column;
 mod delta;
@@ -12,6 +13,7 @@ mod runs;
 mod steps;
 mod table;
 mod vertical;
+mod writer;
 
 use std::path::Path;
 use std::{fs, io};

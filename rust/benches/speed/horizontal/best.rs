@@ -1,23 +1,23 @@
 //! The best Rust that we know for the job: entries compared in the lanes of a word, and unpacked and packed with constant
 //! shifts, straight from the page and straight to the place they go to. The entries are a multiple of 64.
 
-use super::lanes::{word_of_tests, Band};
+use super::lanes::{word, word_of_tests, Band};
 use super::parquet_way::unpack64;
 use crate::column::{of_each_width, with_0_to_63};
 
-/// 64 entries at once, compared in lanes.
+/// 64 entries at once.
 fn select_lanes<const W: usize>(page: &[u8], band: Band<W>, bitmap: &mut [u8]) -> usize {
     let mut count = 0;
     for (g, eight) in bitmap.chunks_exact_mut(8).enumerate() {
         // SAFETY: `select` leaves the last groups out, whose windows pass the page's end.
-        let word = unsafe { band.some(page.as_ptr().add(8 * W * g), 8) };
+        let word = unsafe { band.all(page.as_ptr().add(8 * W * g)) };
         eight.copy_from_slice(&word.to_le_bytes());
         count += word.count_ones() as usize;
     }
     count
 }
 
-/// 64 entries at once, unpacked.
+/// The same with no byte read after them.
 fn select_unpacked<const W: usize>(page: &[u8], band: Band<W>, bitmap: &mut [u8]) -> usize {
     let mut count = 0;
     for (group, eight) in page.chunks_exact(8 * W).zip(bitmap.chunks_exact_mut(8)) {
@@ -32,9 +32,6 @@ fn select_unpacked<const W: usize>(page: &[u8], band: Band<W>, bitmap: &mut [u8]
 
 fn select<const W: usize>(page: &[u8], low: u32, high: u32, bitmap: &mut [u8]) -> usize {
     let band = Band::<W>::of(low, high);
-    if W > 30 {
-        return select_unpacked(page, band, bitmap);
-    }
     let (most, rest) = bitmap.split_at_mut(bitmap.len() - 8);
     let end = &page[most.len() * W..];
     select_lanes(page, band, most) + select_unpacked(end, band, rest)
@@ -78,6 +75,18 @@ fn unpack_all<const W: usize>(page: &[u8], entries: &mut [u32]) {
     }
 }
 
+/// The eight entries from a place on, each through a window of eight bytes.
+///
+/// # Safety
+///
+/// W + 8 bytes are there.
+#[inline(always)]
+pub unsafe fn unpack8<const W: usize>(page: *const u8) -> [u32; 8] {
+    // SAFETY: each window begins within the W bytes of the group.
+    let window = |bit: usize| unsafe { word(page, bit / 8) } >> (bit % 8);
+    std::array::from_fn(|k| (window(k * W) & ((1 << W) - 1)) as u32)
+}
+
 /// Unpacks and counts the entries. The width is 1 to 32.
 pub fn unpack(page: &[u8], width: u32, entries: &mut [u32]) -> usize {
     type Unpack = fn(&[u8], &mut [u32]);
@@ -86,9 +95,9 @@ pub fn unpack(page: &[u8], width: u32, entries: &mut [u32]) -> usize {
     entries.len()
 }
 
-/// Entry I of 64 into the words that it stands in: all shifts are constants once W and I are.
+/// Entry I of some into the words that it stands in: all shifts are constants once W and I are.
 #[inline(always)]
-fn put<const W: usize, const I: usize>(entries: &[u32; 64], words: &mut [u64; 32]) {
+fn put<const W: usize, const I: usize>(entries: &[u32], words: &mut [u64]) {
     let (first, shift, entry) = (I * W / 64, I * W % 64, u64::from(entries[I]));
     words[first] |= entry << shift;
     if shift + W > 64 {
@@ -105,6 +114,21 @@ pub fn pack64<const W: usize>(entries: &[u32; 64]) -> [u64; 32] {
     }
     with_0_to_63!(put_all);
     words
+}
+
+/// Eight entries in W bytes, the first of 32.
+#[inline(always)]
+pub fn pack8<const W: usize>(entries: &[u32; 8]) -> [u8; 32] {
+    let mut words = [0; 4];
+    macro_rules! put_all {
+        ($($i:literal)*) => { $(put::<W, $i>(entries, &mut words);)* };
+    }
+    put_all!(0 1 2 3 4 5 6 7);
+    let mut bytes = [0; 32];
+    for (eight, word) in bytes.chunks_exact_mut(8).zip(words) {
+        eight.copy_from_slice(&word.to_le_bytes());
+    }
+    bytes
 }
 
 fn pack_all<const W: usize>(entries: &[u32], page: &mut [u8]) {

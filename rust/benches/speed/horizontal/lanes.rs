@@ -1,5 +1,7 @@
 //! Several entries of a word compared at once, each in a lane with room for a carry, by constants for each width.
 
+use super::parquet_way::unpack64;
+
 /// A band as the lanes of entries of W bits are compared with it: bit W of `a + ge` and bit W of `le - a` say whether an
 /// entry is inside. Above 30 bits there is no room for lanes, and the band's own ends are used.
 #[derive(Clone, Copy)]
@@ -114,14 +116,31 @@ impl<const W: usize> Band<W> {
         let eight = |g| unsafe { self.eight(page.add(g * W)) };
         (0..groups).fold(0, |word, g| word | eight(g) << (8 * g))
     }
+
+    /// The bits of 64 entries: above 30 bits they are unpacked.
+    ///
+    /// # Safety
+    ///
+    /// 8 × W + 8 bytes are there.
+    #[inline(always)]
+    pub unsafe fn all(self, page: *const u8) -> u64 {
+        // SAFETY: the caller says so.
+        unsafe {
+            if W <= 30 {
+                self.some(page, 8)
+            } else {
+                word_of_tests(&unpack64::<W>(page), |entry| self.has(entry))
+            }
+        }
+    }
 }
 
-/// The bits of 64 tests: 1 or 0 in a byte for each, which is done several at once, and then eight bytes to eight bits.
+/// The bits of at most 64 tests: 1 or 0 in a byte for each, which is done several at once, and then eight bytes to eight
+/// bits. They are a multiple of 8.
 #[inline(always)]
-pub fn word_of_tests<T: Copy>(entries: &[T; 64], test: impl Fn(T) -> bool) -> u64 {
+pub fn word_of_tests<T: Copy, const N: usize>(entries: &[T; N], test: impl Fn(T) -> bool) -> u64 {
     let tests = entries.map(|entry| u8::from(test(entry)));
     let (eights, _) = tests.as_chunks();
-    let byte =
-        |eight: &[u8; 8]| u64::from_le_bytes(*eight).wrapping_mul(0x0102_0408_1020_4080) >> 56;
-    (0..8).fold(0, |word, g| word | byte(&eights[g]) << (8 * g))
+    let byte = |eight: [u8; 8]| u64::from_le_bytes(eight).wrapping_mul(0x0102_0408_1020_4080) >> 56;
+    (0..N / 8).fold(0, |word, g| word | byte(eights[g]) << (8 * g))
 }

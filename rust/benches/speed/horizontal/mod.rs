@@ -1,9 +1,8 @@
 //! Bare horizontal pages: scan at every width, unpack and pack at some.
 
 pub mod best;
-pub mod bit_writer;
 pub mod lanes;
-mod obvious;
+pub mod obvious;
 pub mod parquet_way;
 
 use std::hint::black_box;

@@ -11,7 +11,7 @@ fn window(page: &[u8], at: usize) -> u64 {
 }
 
 /// An entry, through the window in which it stands whole.
-fn entry(page: &[u8], width: u32, i: usize) -> u32 {
+pub fn entry(page: &[u8], width: u32, i: usize) -> u32 {
     let first = i * width as usize;
     let bits = window(page, first / 8) >> (first % 8);
     (bits & ((1 << width) - 1)) as u32

@@ -1,8 +1,8 @@
 //! As the parquet and arrow crates do it: entries unpacked 64 at once with constant shifts into a batch, and the batch
 //! compared, 64 entries to a word of the bitmap; packed by a bit writer. The entries read are a multiple of 64.
 
-use super::bit_writer::BitWriter;
 use crate::column::{of_each_width, with_0_to_63};
+use crate::writer::BitWriter;
 
 /// Word i of eight bytes, low byte first.
 ///
@@ -113,5 +113,5 @@ pub fn pack(entries: &[u32], width: u32, page: &mut [u8]) -> Option<usize> {
         seen |= entry;
         writer.put(entry, width);
     }
-    (u64::from(seen) >> width == 0).then_some(writer.flush())
+    (u64::from(seen) >> width == 0).then_some(writer.aligned().at)
 }

@@ -1,53 +1,9 @@
-//! As Parquet readers do it: runs are read into a list of entries, and the list is compared. Packed runs are unpacked eight
-//! entries at once, with shifts that are constants for each width.
+//! As the parquet crate does it: runs are read into a list of entries, and the list is compared. Packed runs are unpacked
+//! eight entries at once, with shifts that are constants for each width. Its encoder is given one entry after another.
 
+use super::page::{next, put_repeated, Run};
 use crate::column::of_each_width;
-
-/// A run's entries: so many of one value, or groups of eight in a part of the page.
-pub enum Run<'a> {
-    Repeated(usize, u32),
-    Packed(usize, &'a [u8]),
-}
-
-/// Takes the next run from the front of the page; none where the page does not have it, or `left` entries are too
-/// few for it.
-pub fn next<'a>(page: &mut &'a [u8], width: u32, left: usize) -> Option<Run<'a>> {
-    let h = number(page)?;
-    let length = (h / 2) as usize;
-    if length == 0 {
-        return None;
-    }
-    if h % 2 == 0 {
-        let bytes = take(page, width.div_ceil(8) as usize)?;
-        let value = bytes.iter().rev().fold(0, |v, &b| v << 8 | u64::from(b));
-        let good = length <= left && value >> width == 0;
-        good.then_some(Run::Repeated(length, value as u32))
-    } else {
-        let good = length <= left.div_ceil(8);
-        let body = take(page, if good { length * width as usize } else { 0 })?;
-        good.then_some(Run::Packed(length, body))
-    }
-}
-
-/// The next bytes of a page.
-pub fn take<'a>(page: &mut &'a [u8], len: usize) -> Option<&'a [u8]> {
-    let (front, rest) = page.split_at_checked(len)?;
-    *page = rest;
-    Some(front)
-}
-
-/// A variable-length number of at most five bytes and 32 bits.
-pub fn number(page: &mut &[u8]) -> Option<u64> {
-    let mut number = 0;
-    for k in 0..5 {
-        let byte = take(page, 1)?[0];
-        number |= u64::from(byte & 0x7F) << (7 * k);
-        if byte < 0x80 {
-            return (number >> 32 == 0).then_some(number);
-        }
-    }
-    None
-}
+use crate::writer::BitWriter;
 
 /// N entries of W bits at once, with constant shifts. ROOM is what they take at width 32, and 8 bytes more.
 #[inline(always)]
@@ -67,7 +23,7 @@ fn unpack8<const W: usize>(group: &[u8]) -> [u32; 8] {
 }
 
 /// The entries of a body, as many as there are places.
-fn unpack_groups<const W: usize>(body: &[u8], entries: &mut [u32]) {
+pub fn unpack_groups<const W: usize>(body: &[u8], entries: &mut [u32]) {
     let whole = entries.len() / 8;
     let (eights, last) = entries.split_at_mut(8 * whole);
     for (eight, group) in eights.chunks_exact_mut(8).zip(body.chunks_exact(W)) {
@@ -92,9 +48,9 @@ pub fn unpack(mut page: &[u8], width: u32, entries: &mut [u32]) -> Option<usize>
                 rest[..length].fill(value);
                 length
             }
-            Run::Packed(groups, body) => {
+            Run::Packed(groups, from_body) => {
                 let some = rest.len().min(8 * groups);
-                unpack_groups(body, &mut rest[..some]);
+                unpack_groups(&from_body[..groups * width as usize], &mut rest[..some]);
                 some
             }
         };
@@ -129,55 +85,91 @@ pub fn select<T: Copy + PartialOrd>(entries: &[T], low: T, high: T, bitmap: &mut
     count
 }
 
-/// A page that is written from its front on.
-pub struct Writer<'a> {
-    pub page: &'a mut [u8],
-    pub at: usize,
+/// The encoder: what it has seen since it last wrote.
+struct Encoder<'a> {
+    bits: BitWriter<'a>,
+    width: u32,
+    value: u32,
+    repeats: usize,
+    buffered: [u32; 8],
+    held: usize,
+    /// Of the packed run that is open, if one is: where its header is to be, and its groups.
+    header: usize,
+    groups: u8,
 }
 
-impl Writer<'_> {
-    pub fn byte(&mut self, byte: u8) {
-        self.page[self.at] = byte;
-        self.at += 1;
-    }
-
-    /// The shortest spelling of a variable-length number.
-    pub fn number(&mut self, mut number: usize) {
-        while number >= 128 {
-            self.byte(number as u8 | 0x80);
-            number >>= 7;
-        }
-        self.byte(number as u8);
-    }
-
-    /// The entries in whole groups, filled with 0.
-    pub fn groups(&mut self, entries: &[u32], groups: usize, width: u32) {
-        let mut bits = 0u64;
-        let mut held = 0;
-        let filling = std::iter::repeat_n(0, 8 * groups - entries.len());
-        for entry in entries.iter().copied().chain(filling) {
-            bits |= u64::from(entry) << held;
-            held += width;
-            while held >= 8 {
-                self.byte(bits as u8);
-                bits >>= 8;
-                held -= 8;
+impl Encoder<'_> {
+    #[inline]
+    fn put(&mut self, entry: u32) {
+        if self.value == entry {
+            self.repeats += 1;
+            if self.repeats > 8 {
+                return;
             }
+        } else {
+            if self.repeats >= 8 {
+                self.close_repeated();
+            }
+            self.repeats = 1;
+            self.value = entry;
+        }
+        self.buffered[self.held] = entry;
+        self.held += 1;
+        if self.held == 8 {
+            self.flush();
         }
     }
-}
 
-/// How many entries from the first on are equal.
-fn stretch(entries: &[u32]) -> usize {
-    let other = entries.iter().position(|&entry| entry != entries[0]);
-    other.unwrap_or(entries.len())
-}
+    fn close_repeated(&mut self) {
+        put_repeated(self.repeats, self.value, self.width, self.bits.aligned());
+        (self.repeats, self.held) = (0, 0);
+    }
 
-/// How many groups a packed run takes from here: up to a repeated run, the end, or 63.
-fn groups(entries: &[u32]) -> usize {
-    let most = entries.len().div_ceil(8).min(63);
-    let closes = |&g: &usize| entries[8 * g..].len() >= 8 && stretch(&entries[8 * g..][..8]) == 8;
-    (0..most).find(closes).unwrap_or(most)
+    fn close_packed(&mut self) {
+        self.bits.aligned().page[self.header] = 2 * self.groups + 1;
+        self.groups = 0;
+    }
+
+    /// Eight entries are buffered: they begin a repeated run, or are a group of the packed run.
+    fn flush(&mut self) {
+        self.held = 0;
+        if self.repeats >= 8 {
+            if self.groups > 0 {
+                self.close_packed();
+            }
+            return;
+        }
+        self.put_group();
+        if self.groups == 63 {
+            self.close_packed();
+        }
+        self.repeats = 0;
+    }
+
+    fn put_group(&mut self) {
+        if self.groups == 0 {
+            self.header = self.bits.aligned().at;
+            self.bits.aligned().at += 1;
+        }
+        for entry in self.buffered {
+            self.bits.put(entry, self.width);
+        }
+        self.groups += 1;
+    }
+
+    /// Closes what is open; the last group is filled with 0. Gives the length written.
+    fn end(mut self) -> usize {
+        if self.repeats >= 8 {
+            self.close_repeated();
+        } else if self.held > 0 {
+            self.buffered[self.held..].fill(0);
+            self.put_group();
+        }
+        if self.groups > 0 {
+            self.close_packed();
+        }
+        self.bits.aligned().at
+    }
 }
 
 /// Packs the entries, and gives the length written if all are below 2^width.
@@ -186,23 +178,16 @@ pub fn pack(entries: &[u32], width: u32, page: &mut [u8]) -> Option<usize> {
     if u64::from(all) >> width != 0 {
         return None;
     }
-    let mut writer = Writer { page, at: 0 };
-    let mut rest = entries;
-    while let Some(first) = rest.first() {
-        let (length, groups) = (stretch(rest), groups(rest));
-        if length >= 8 {
-            writer.number(2 * length);
-            let value = first.to_le_bytes();
-            value[..width.div_ceil(8) as usize]
-                .iter()
-                .for_each(|&byte| writer.byte(byte));
-            rest = &rest[length..];
-        } else {
-            writer.number(2 * groups + 1);
-            let (packed, later) = rest.split_at(rest.len().min(8 * groups));
-            writer.groups(packed, groups, width);
-            rest = later;
-        }
-    }
-    Some(writer.at)
+    let mut encoder = Encoder {
+        bits: BitWriter::to(page),
+        width,
+        value: 0,
+        repeats: 0,
+        buffered: [0; 8],
+        held: 0,
+        header: 0,
+        groups: 0,
+    };
+    entries.iter().for_each(|&entry| encoder.put(entry));
+    Some(encoder.end())
 }
