@@ -1,22 +1,14 @@
-//! As Parquet readers do it: indexes are read into a list, then each is looked up among the values and compared.
+//! As the parquet crate does it: indexes are read into a list, then each is looked up among the values and compared.
 
+use super::page::{stream, values};
 use crate::runs::parquet_way::unpack as unpack_indexes;
 
-/// The values of a dictionary, if they ascend.
-fn values(dictionary: &[u8]) -> Option<Vec<i32>> {
-    let (fours, rest) = dictionary.as_chunks();
-    let values: Vec<i32> = fours.iter().map(|&four| i32::from_le_bytes(four)).collect();
-    let ascend = values.windows(2).all(|pair| pair[0] < pair[1]);
-    (rest.is_empty() && dictionary.len() <= 65_536 && ascend).then_some(values)
-}
-
-/// The n indexes of a page, of a width from 1 to 32.
+/// The n indexes of a page.
 fn indexes(page: &[u8], n: usize) -> Option<Vec<u32>> {
-    let (&width, stream) = page.split_first()?;
+    let (width, stream) = stream(page)?;
     let mut indexes = vec![0; n];
-    let good = (1..=32).contains(&width);
-    let read = good.then(|| unpack_indexes(stream, width.into(), &mut indexes));
-    read.flatten().map(|_| indexes)
+    unpack_indexes(stream, width, &mut indexes)?;
+    Some(indexes)
 }
 
 /// Looks up as many entries as there are places, and gives their number.
