@@ -32,7 +32,7 @@ pub fn scan(
     let (width, stream) = stream(page)?;
     let first = values.partition_point(|&value| i32::from_le_bytes(value) < low) as u32;
     let end = values.partition_point(|&value| i32::from_le_bytes(value) <= high) as u32;
-    // No index is as great as that of an empty band.
+    // An empty band is put above all indexes.
     let band = if first < end {
         (first, end - 1)
     } else {

@@ -44,30 +44,25 @@ pub fn scan(page: &[u8], width: u32, low: u32, high: u32, bitmap: &mut [u8]) -> 
     SELECTS[width as usize - 1](page, low, high, bitmap)
 }
 
-/// Unpacks groups of 64.
+/// Unpacks groups of 64: entries that are numbers of Rust several at once as they are, others with constant shifts.
 fn unpack_all<const W: usize>(page: &[u8], entries: &mut [u32]) {
     let groups = page.chunks_exact(8 * W);
     for (group, places) in groups.zip(entries.chunks_exact_mut(64)) {
         match W {
-            8 => places
-                .iter_mut()
-                .zip(group)
-                .for_each(|(to, &from)| *to = from.into()),
+            8 => {
+                for (place, &byte) in places.iter_mut().zip(group) {
+                    *place = byte.into();
+                }
+            }
             16 => {
-                let (twos, _) = group.as_chunks();
-                let entries = twos.iter().map(|&two| u16::from_le_bytes(two));
-                places
-                    .iter_mut()
-                    .zip(entries)
-                    .for_each(|(to, from)| *to = from.into());
+                for (place, &two) in places.iter_mut().zip(group.as_chunks().0) {
+                    *place = u16::from_le_bytes(two).into();
+                }
             }
             32 => {
-                let (fours, _) = group.as_chunks();
-                let entries = fours.iter().map(|&four| u32::from_le_bytes(four));
-                places
-                    .iter_mut()
-                    .zip(entries)
-                    .for_each(|(to, from)| *to = from);
+                for (place, &four) in places.iter_mut().zip(group.as_chunks().0) {
+                    *place = u32::from_le_bytes(four);
+                }
             }
             // SAFETY: the group has 8 × W bytes.
             _ => places.copy_from_slice(&unsafe { unpack64::<W>(group.as_ptr()) }),
@@ -107,7 +102,7 @@ fn put<const W: usize, const I: usize>(entries: &[u32], words: &mut [u64]) {
 
 /// 64 entries in W words, the first of 32.
 #[inline(always)]
-pub fn pack64<const W: usize>(entries: &[u32; 64]) -> [u64; 32] {
+fn pack64<const W: usize>(entries: &[u32; 64]) -> [u64; 32] {
     let mut words = [0; 32];
     macro_rules! put_all {
         ($($i:literal)*) => { $(put::<W, $i>(entries, &mut words);)* };
