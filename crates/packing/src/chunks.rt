@@ -34,7 +34,7 @@ fn chunk(entries: &[u32], i: usize, k: usize, w: usize) -> u64
     let mut x: u64 = 0;
     let mut j: usize = 0;
     while j < k {
-        x += (entries[i + j] as u64) << (j * w);
+        x = x | (entries[i + j] as u64) << (j * w);
         j += 1;
     }
     x

@@ -1,12 +1,12 @@
--- `packing::chunks::chunk` meets its contract: each turn joins one entry more, and the number stays below 2^56.
-use mathlib.Core.Path.{_≡_, refl}
+-- `packing::chunks::chunk` meets its contract: each turn joins one entry more.
+use mathlib.Core.Path.{_≡_, refl, sym}
 use mathlib.Core.List.{List}
 use Prim.Native.Nat.{ℕ, _+_, _-_, _*_, _%_, _^_, _≤_, _<_}
-use native.Mathlib.Nat.{lt-of-lt-of-le, add-mul}
 use native.Mathlib.Omega.{arith}
 use lib.ListN.{length, take, drop, getD, length-drop}
 use lib.Seq.{getD-drop}
-use lib.Pow.{pow-mono, shl-exact}
+use lib.Pow.{shl-exact}
+use lib.Bits.{bitOr, or-shifted-r}
 use borrow.Author.Needs.{needs}
 use Rattle.rules.specs.Bits.{joined}
 use Rattle.words.specs.Entries.{place-within}
@@ -16,19 +16,14 @@ use Rattle.packing.specs.Large.{small-of}
 use Rattle.packing.proofs.chunks.chunk.Statement.{statement}
 use Rattle.packing.proofs.chunks.chunk.Tie as tie
 
-module _ (xs : List ℕ) (i k w j : ℕ) (few : k * w ≤ 56) (there : i + k ≤ length xs) (small : Small w xs) (l : j < k) where
-  -- one entry more is shifted to its place
-  entry-more : joined w (take j (drop i xs)) + (getD xs (i + j) 0 * 2 ^ (j * w)) % 2 ^ 64 ≡ joined w (take (j + 1) (drop i xs))
-  entry-more =
-      let more = joined-next w (drop i xs) j (rw length-drop (omega arith)) in
-      let same = getD-drop i xs j 0 in
-      rw (shl-exact w (j * w) 64 (small (i + j)) (omega (arith, place-within w j k l)), more, same) (omega arith)
-
-  -- and there are at most 56 bits
-  more-below : joined w (take (j + 1) (drop i xs)) < 2 ^ 56
-  more-below =
-      lt-of-lt-of-le (first-below w (j + 1) (drop i xs) (rw length-drop (omega arith)) (small-drop w i xs small))
-      (pow-mono {i = (j + 1) * w} {j = 56} (omega (arith, place-within w j k l, add-mul j 1 w)))
+-- one entry more, shifted to its place
+entry-more : (xs : List ℕ) (i k w j : ℕ) → k * w ≤ 56 → i + k ≤ length xs → Small w xs → j < k
+    → bitOr (joined w (take j (drop i xs))) ((getD xs (i + j) 0 * 2 ^ (j * w)) % 2 ^ 64) ≡ joined w (take (j + 1) (drop i xs))
+entry-more xs i k w j few there small l =
+    let long : j < length (drop i xs) = rw length-drop (omega arith) in
+    let below = first-below w j (drop i xs) (omega arith) (small-drop w i xs small) in
+    rw (shl-exact w (j * w) 64 (small (i + j)) (omega (arith, place-within w j k l)), or-shifted-r (getD xs (i + j) 0) (j * w) (joined w (take j (drop i xs))) below, ← (getD-drop i xs j 0))
+    (sym (joined-next w (drop i xs) j long))
 
 abbrev Inv-loop : tie.InvT-loop
 Inv-loop entries i k w x₀ j₀ x j = (j ≤ k) × (x ≡ joined w (take j (drop i entries)))
@@ -62,15 +57,6 @@ shl-x c =
     let a = c .before .before .before .args in
     omega (arith, place-within (a .w) (c .before .before .loop .j) (a .k) (omega arith))
 
-add-x-2 : tie.Need-add-x-2 Inv-loop μ-loop
-add-x-2 c =
-    let s = c .before .before .before in
-    let a = s .args in
-    let l = c .before .before .loop in
-    let small = small-of (a .w) (a .entries .now) (s .pre .2) in
-    rw (l .inv .1, entry-more (a .entries .now) (a .i) (a .k) (a .w) (l .j) (omega arith) (omega arith) small (omega arith))
-    (omega (arith, more-below (a .entries .now) (a .i) (a .k) (a .w) (l .j) (omega arith) (omega arith) small (omega arith)))
-
 add-j : tie.Need-add-j Inv-loop μ-loop
 add-j c = search needs
 
@@ -102,7 +88,6 @@ chunk-spec =
     cast-x
     mul-x-2
     shl-x
-    add-x-2
     add-j
     loop-less
     loop-again
