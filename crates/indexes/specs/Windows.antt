@@ -1,61 +1,98 @@
--- Packed indexes in windows of eight bytes: some are too large where the lanes of their tests are not all 0.
-use mathlib.Core.Path.{_≡_, refl, sym, ap, ap₂, _∙_}
-use mathlib.Core.Bool.{Bool, true, false, _&&_, _||_, or-assoc, and-true}
+-- Packed indexes in windows of eight bytes: some are too large where a bit is set of those that the sums of their lanes have for it.
+use mathlib.Core.Path.{_≡_, refl, ap, ap₂, _∙_}
+use mathlib.Core.Bool.{Bool, true, false, _&&_, _||_}
 use mathlib.Core.List.{List}
-use Prim.Native.Nat.{ℕ, zero, suc, _+_, _*_, _/_, _%_, _^_, _≤_, _<_}
-use native.Mathlib.Nat.{add-mul, mul-assoc}
+use Prim.Native.Nat.{ℕ, zero, suc, _+_, _-_, _*_, _/_, _%_, _^_, _≤_, _<_, min}
+use native.Mathlib.Nat.{add-mul, add-zero, mul-assoc, mul-comm}
 use native.Mathlib.Omega.{arith}
+use lib.Bits.{bitAnd, bitOr, and-block, and-zero-r}
 use lib.Dec.{leb, ltb, eqb}
 use lib.ListN.{take, drop}
-use lib.Pow.{pow-pos}
-use borrow.Author.Tests.{le-leb, ltb-true, leb-true, eqb-true}
+use lib.Pow.{pow-pos, pow-add, pow-mono, shr-shr}
+use borrow.Author.Tests.{ltb-true, leb-true, leb-false, eqb-true}
 use Rattle.rules.specs.Bits.{flag, tabulate, joined, number, field, someBelow}
 use Rattle.rules.specs.Bits.Order.{lowFirst}
 use Rattle.words.specs.Tests.{both}
 use Rattle.words.specs.Joined.{Small}
-use Rattle.words.specs.Entries.{field-small}
-use Rattle.compare.specs.Range.{inside}
-use Rattle.kernels.specs.Lanes.{lanes, lanes-ext}
-use Rattle.kernels.specs.Marks.{tested, pair}
-use Rattle.kernels.specs.Windows.{window-tests}
-use Rattle.indexes.specs.Some.{some-ext, some-add, any-add, any-mul, word-some}
+use Rattle.kernels.specs.Lanes.{lanes, lanes-ext, lanes-add, lanes-and, every}
+use Rattle.kernels.specs.Marks.{held, held-lt, holds-all, evens, sum-fits as lanes-fit}
+use Rattle.kernels.specs.Windows.{window-entry}
+use Rattle.indexes.specs.Some.{some-ext, some-add, some-halves, any-add, any-mul, any-masked}
 
--- ---- tests in pairs
+-- ---- sums in lanes: bit w says whether a lane's index is too large
 
-either-flag : (a b : Bool) → ltb 0 (flag a + flag b * 2) ≡ (a || b)
-either-flag true true = refl
-either-flag true false = refl
-either-flag false true = refl
-either-flag false false = refl
+lane-large : (w limit x : ℕ) → x < 2 ^ w → limit ≤ 2 ^ w → bitAnd (x + (2 ^ w - limit)) (2 ^ w) ≡ flag (leb limit x) * 2 ^ w
+lane-large w limit x small low = go (leb limit x) refl
+  where
+    top : (a r : ℕ) → r < 2 ^ w → x + (2 ^ w - limit) ≡ a * 2 ^ w + r → bitAnd (x + (2 ^ w - limit)) (2 ^ w) ≡ bitAnd a 1 * 2 ^ w
+    top a r h e =
+        let one : 2 ^ w ≡ 1 * 2 ^ w + 0 = omega arith in
+        ap₂ bitAnd e one ∙ and-block w a 1 r 0 h (pow-pos w) ∙ rw (and-zero-r r, add-zero)
 
-pub lanes-some : (n d : ℕ) (t : ℕ → Bool) → ltb 0 (lanes n d (pair t)) ≡ someBelow (2 * n) t
-unfolding lanes joined tabulate pair someBelow
-lanes-some zero d t = refl
-lanes-some (suc n) d t =
-    let two : (i : ℕ) → 2 * suc i ≡ suc (suc (2 * i)) = λ i. omega arith in
-    let odd : (i : ℕ) → 2 * suc i + 1 ≡ suc (suc (2 * i + 1)) = λ i. omega arith in
-    let same : (i : ℕ) → pair t (suc i) ≡ pair (λ k. t (suc (suc k))) i = λ i. ap₂ (λ (x y : ℕ). flag (t x) + flag (t y) * 2) (two i) (odd i) in
-    any-add (pair t zero) (lanes n d (λ i. pair t (suc i)) * 2 ^ d)
-    ∙ ap₂ _||_ (either-flag (t 0) (t 1))
-    (any-mul (lanes n d (λ i. pair t (suc i))) (2 ^ d) (pow-pos d) ∙ ap (ltb 0) (lanes-ext n d (λ i l. same i)) ∙ lanes-some n d (λ k. t (suc (suc k))))
-    ∙ or-assoc (t 0) (t 1) (someBelow (2 * n) (λ k. t (suc (suc k))))
-    ∙ ap (λ (k : ℕ). someBelow k t) (sym (two n))
+    go : (t : Bool) → leb limit x ≡ t → bitAnd (x + (2 ^ w - limit)) (2 ^ w) ≡ flag t * 2 ^ w
+    go true e = top 1 (x - limit) (omega arith) (omega (arith, leb-true limit x e))
+    go false e = top 0 (x + (2 ^ w - limit)) (omega (arith, leb-false limit x e)) (omega arith)
+
+lanes-some : (n d p : ℕ) (t : ℕ → Bool) → 0 < p → ltb 0 (lanes n d (λ i. flag (t i) * p)) ≡ someBelow n t
+unfolding lanes joined tabulate someBelow
+lanes-some zero d p t h = refl
+lanes-some (suc n) d p t h =
+    any-add (flag (t zero) * p) (lanes n d (λ i. flag (t (suc i)) * p) * 2 ^ d)
+    ∙ ap₂ _||_ (any-mul (flag (t zero)) p h ∙ any-flag (t zero)) (any-mul (lanes n d (λ i. flag (t (suc i)) * p)) (2 ^ d) (pow-pos d) ∙ lanes-some n d p (λ i. t (suc i)) h)
+  where
+    any-flag : (s : Bool) → ltb 0 (flag s) ≡ s
+    any-flag true = refl
+    any-flag false = refl
+
+module _ (n w limit : ℕ) (some : 0 < w) (low : limit ≤ 2 ^ w) where
+  -- 1 in every lane, the mask of the even indexes, and what is added to each
+  abbrev pub ones : ℕ
+  ones = lanes n (2 * w) (λ i. 1)
+
+  abbrev pub even : ℕ
+  even = (2 ^ w - 1) * ones
+
+  abbrev pub rest : ℕ
+  rest = (2 ^ w - limit) * ones
+
+  -- every second index of x
+  lanes-large : (x : ℕ) → ltb 0 (bitAnd (bitAnd x even + rest) (2 ^ w * ones)) ≡ someBelow n (λ i. leb limit (held (2 * w) w x i))
+  lanes-large x =
+      let d = 2 * w in
+      let f : ℕ → ℕ = held d w x in
+      let more : 2 ^ (w + 1) ≤ 2 ^ d = pow-mono {i = w + 1} {j = d} (omega arith) in
+      ap₂ (λ (p q : ℕ). ltb 0 (bitAnd p q)) (ap₂ _+_ (evens n w some x) (every n d (2 ^ w - limit)) ∙ lanes-add n d f (λ i. 2 ^ w - limit)) (every n d (2 ^ w))
+      ∙ ap (ltb 0)
+      (lanes-and n d (λ i. f i + (2 ^ w - limit)) (λ i. 2 ^ w) (λ i l. omega (arith, held-lt d w x i, pow-add 2 w 1)) (λ i l. omega (arith, pow-pos w, pow-add 2 w 1))
+      ∙ lanes-ext n d (λ i l. lane-large w limit (f i) (held-lt d w x i) low))
+      ∙ lanes-some n d (2 ^ w) (λ i. leb limit (f i)) (pow-pos w)
+
+  pub sum-fits : (x : ℕ) → n * (2 * w) ≤ 64 → bitAnd x even + rest < 2 ^ 64
+  sum-fits x fits =
+      let least : min limit (2 ^ w) ≡ limit = omega arith in
+      rw (← least)
+      (lanes-fit n (2 * w) w limit 0 (bitAnd x even) (omega arith)
+      (holds-all n (2 * w) w (held (2 * w) w x) (bitAnd x even) (omega arith) (λ i l. held-lt (2 * w) w x i) (evens n w some x)) fits)
+
+  -- all indexes of x
+  pub sums-large : (x : ℕ) → ltb 0 (bitAnd (bitOr (bitAnd x even + rest) (bitAnd (x / 2 ^ w) even + rest)) (2 ^ w * ones))
+      ≡ someBelow (2 * n) (λ j. leb limit (x / 2 ^ (j * w) % 2 ^ w))
+  sums-large x =
+      let place : (i : ℕ) → i * (2 * w) ≡ 2 * i * w = λ i. rw (← mul-assoc, mul-comm i) in
+      let next : (i : ℕ) → w + i * (2 * w) ≡ (2 * i + 1) * w = λ i. omega (arith, add-mul (2 * i) 1 w, place i) in
+      any-masked (2 ^ w * ones) (bitAnd x even + rest) (bitAnd (x / 2 ^ w) even + rest)
+      ∙ ap₂ _||_
+      (lanes-large x ∙ some-ext n (λ i l. ap (λ (k : ℕ). leb limit (x / 2 ^ k % 2 ^ w)) (place i)))
+      (lanes-large (x / 2 ^ w) ∙ some-ext n (λ i l. ap (λ (k : ℕ). leb limit (k % 2 ^ w)) (shr-shr x w (i * (2 * w)) ∙ ap (λ (k : ℕ). x / 2 ^ k) (next i))))
+      ∙ some-halves n (λ j. leb limit (x / 2 ^ (j * w) % 2 ^ w))
 
 -- ---- windows
 
-inside-large : (limit x : ℕ) → x < 4294967296 → inside limit 4294967295 x ≡ leb limit x
-unfolding inside
-inside-large limit x h = rw (le-leb x 4294967295 (omega arith)) (and-true (leb limit x))
-
 -- m entries that begin at bit o of a window
-pub window-some : (page : List ℕ) (m at o w limit x : ℕ) {k : ℕ} → Small 8 page → o + m * w ≤ 64 → w ≤ 32
+pub window-some : (page : List ℕ) (m at o w limit x : ℕ) {k : ℕ} → Small 8 page → o + m * w ≤ 64
     → x ≡ number (take 8 (drop at page)) / 2 ^ o → 8 * at + o ≡ k
-    → someBelow m (tested limit 4294967295 w x) ≡ someBelow m (λ j. leb limit (field lowFirst page (k + j * w) w))
-window-some page m at o w limit x {k} all fits narrow e f =
-    sym (word-some m (tested limit 4294967295 w x))
-    ∙ ap (ltb 0) (window-tests page m at o w limit 4294967295 x all fits e f)
-    ∙ word-some m (λ j. inside limit 4294967295 (field lowFirst page (k + j * w) w))
-    ∙ some-ext m (λ j l. inside-large limit (field lowFirst page (k + j * w) w) (field-small page (k + j * w) w narrow))
+    → someBelow m (λ j. leb limit (x / 2 ^ (j * w) % 2 ^ w)) ≡ someBelow m (λ j. leb limit (field lowFirst page (k + j * w) w))
+window-some page m at o w limit x all fits e f = some-ext m (λ j l. ap (leb limit) (window-entry page m at o w x all fits e f j l))
 
 module _ (page : List ℕ) (w limit : ℕ) where
   -- four entries, and the next four

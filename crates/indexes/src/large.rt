@@ -1,7 +1,7 @@
 // The run stream of an index page judged, and on the way whether an index is too large: not below the dictionary's count.
 ghost use mathlib.Core.Path.{_≡_};
 ghost use mathlib.Core.Bool.{_&&_};
-ghost use Prim.Native.Nat.{_+_, _*_, _/_, _%_, _≤_};
+ghost use Prim.Native.Nat.{_+_, _*_, _/_, _%_, _^_, _≤_};
 ghost use lib.Dec.{leb, ltb, eqb};
 ghost use lib.ListN.{length};
 ghost use Rattle.rules.specs.Bits.{ceil, field, someBelow};
@@ -76,7 +76,7 @@ fn some_packed(
     limit: usize,
     marks: &mut [u8],
 ) -> bool
-    requires { ⌜ (w ≤ 32) × (m ≤ 16384) × (limit ≤ 16384) × (start + ceil (m * w) 8 ≤ length (now page)) × (ceil m 8 ≤ length (now marks)) ⌝ }
+    requires { ⌜ (w ≤ 32) × (m ≤ 16384) × (limit ≤ 16384) × (limit ≤ 2 ^ w) × (start + ceil (m * w) 8 ≤ length (now page)) × (ceil m 8 ≤ length (now marks)) ⌝ }
     ensures { λ r. ⌜ r ≡ someBelow m (λ k. leb limit (field lowFirst (now (page .entry)) (8 * start + k * w) w)) ⌝ }
 {
     if in_windows(page.len() - start, w, m) {
@@ -87,7 +87,7 @@ fn some_packed(
 
 // The stream's first fault in reading order, and 15 for an index that is too large only where it has none. `marks` is lent to write on.
 pub fn runs_fault(page: &[u8], w: usize, n: usize, limit: usize, marks: &mut [u8]) -> u32
-    requires { ⌜ (w ≤ 32) × (n ≤ 16384) × (limit ≤ 16384) × (ceil n 8 ≤ length (now marks)) ⌝ }
+    requires { ⌜ (w ≤ 32) × (n ≤ 16384) × (limit ≤ 16384) × (limit ≤ 2 ^ w) × (ceil n 8 ≤ length (now marks)) ⌝ }
     ensures { λ r. ⌜ r ≡ (streamFault (read w n (now (page .entry))) then faulty (someBelow n (λ i. leb limit (streamEntry w (read w n (now (page .entry))) i))) 15) ⌝ }
 {
     let mut at: usize = 0;

@@ -94,7 +94,7 @@ some-packed-requires c κs =
     let b = r .before .before .before .before .before in
     let ran = ran-packed _ _ _ _ (packed-run r) in
     let m = c .before .below .ensures in
-    (search needs, omega arith, search needs, omega (arith, body-fits (b .before .before .before .args .w) (r .before .run2 .given .0 .0) (c .before .below .result) (omega arith)), omega (arith, b .loop .inv .1))
+    (search needs, omega arith, search needs, b .before .before .before .pre .3, omega (arith, body-fits (b .before .before .before .args .w) (r .before .run2 .given .0 .0) (c .before .below .result) (omega arith)), omega (arith, b .loop .inv .1))
 
 either-requires-2 : tie.Need-either-requires-2 Inv-loop μ-loop
 either-requires-2 c κs = search needs

@@ -23,7 +23,7 @@ held : (c : tie.Then1) → let a = c .before .before .before .before .args in
 held c = windows-hold _ _ _ (sym (c .before .in-windows .ensures) ∙ c .if1 .taken)
 
 some-groups-requires : tie.Need-some-groups-requires
-some-groups-requires c κs = let h = held c in (h .0, h .1, omega arith)
+some-groups-requires c κs = let h = held c in (h .0, h .1, c .before .before .before .before .pre .3, omega arith)
 
 returns : tie.Need-returns
 returns c =
