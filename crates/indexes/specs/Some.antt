@@ -9,7 +9,6 @@ use lib.Bits.{bitAnd, bitOr, and-step, or-step, and-zero-r, and-le-r, or-add-and
 use lib.Dec.{ltb}
 use borrow.Author.Tests.{lt-ltb}
 use Rattle.rules.specs.Bits.{someBelow}
-use Rattle.rules.specs.Bitmap.{tally}
 use Rattle.words.specs.SomeBelow.{none-below, some-below}
 use Rattle.bitmaps.specs.Counts.{tally-some, tally-ext}
 

@@ -1,6 +1,5 @@
 -- `indexes::windows::sums` meets its contract: no lane reaches the next, so that each index is tested by itself.
-use mathlib.Core.Path.{_≡_}
-use Prim.Native.Nat.{_*_, _-_, _/_, _^_, _<_}
+use Prim.Native.Nat.{_*_, _/_, _^_}
 use native.Mathlib.Omega.{arith}
 use lib.Pow.{pow-pos}
 use borrow.Author.Needs.{needs}
