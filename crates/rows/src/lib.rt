@@ -4,6 +4,8 @@ pub mod signed_entries;
 ghost use mathlib.Core.Path.{_≡_};
 ghost use mathlib.Core.Bool.{true, _&&_};
 ghost use lib.Dec.{eqb};
+ghost use Rattle.lines.specs.Text.{held};
+ghost use Rattle.rows.specs.Asked.{askedFor};
 ghost use Rattle.rows.specs.Read.{Read};
 use lines::Line;
 use rules::Answer;
@@ -14,7 +16,9 @@ pub const GAVE: usize = 42;
 const WORD: usize = 70;
 
 // A page, the width of its entries, and how many are asked for.
-pub fn asked(page: &[u8], width: u32, n: usize) -> Line {
+pub fn asked(page: &[u8], width: u32, n: usize) -> Line
+    ensures { λ r. ⌜ held r ≡ askedFor (now (page .entry)) width n ⌝ }
+{
     let line = Line::new().words(b" ").bytes(page, page.len()).column(24);
     let line = line.words(b"width ").number(width as u64);
     line.words(b", n ").number(n as u64).column(GAVE)

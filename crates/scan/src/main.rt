@@ -1,4 +1,6 @@
 // The program `scan`: which seconds of a column satisfy a comparison, and where in the day they lie.
+mod column;
+
 use asking::names::NO_LAYOUT;
 use asking::names::is_help;
 use asking::names::layout;
@@ -28,5 +30,5 @@ fn asked(word: &[u8]) {
         tell(Sentence::WrongLayout);
         return;
     }
-    clerk::asked(named);
+    column::asked(named);
 }

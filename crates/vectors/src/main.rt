@@ -1,11 +1,11 @@
 // Published vectors, run through the proved functions and compared: document 01's examples that are not in the proved table, and Parquet's own.
+mod delta_pages;
+mod dictionary_columns;
 mod horizontal_pages;
 mod run_streams;
 
 use lines::say;
 use lines::topic;
-use signed_vectors::delta_pages;
-use signed_vectors::dictionary_columns;
 
 fn main() {
     say(b"Published vectors: what was asked, what the proved function gave");

@@ -1,9 +1,9 @@
--- `clerk::walked` is safe and ends: each turn leaves fewer pages.
+-- `scan::column::walked` is safe and ends: each turn leaves fewer pages.
 use Prim.Native.Nat.{_-_}
 use lib.ListN.{length}
 use borrow.Author.Needs.{needs}
-use Rattle.clerk.proofs.walked.Statement.{statement}
-use Rattle.clerk.proofs.walked.Tie as tie
+use Rattle.scan.proofs.column.walked.Statement.{statement}
+use Rattle.scan.proofs.column.walked.Tie as tie
 
 abbrev Inv-loop : tie.InvT-loop
 Inv-loop q entries dictionary files out selected₀ answered₀ day₀ k₀ selected answered day k = Unit {0}
