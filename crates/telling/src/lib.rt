@@ -4,7 +4,7 @@ use days::seconds;
 use libc::STDERR_FILENO;
 use lines::Line;
 
-// A number by itself is a word's place on the command line.
+// Where nothing else is said, a number is a word's place on the command line.
 pub enum Sentence {
     ManyWords,
     LongWord,
@@ -21,8 +21,7 @@ pub enum Sentence {
     OneConstant(usize),
     TwoConstants(usize),
     NoConstant(usize),
-    // of pages and dictionaries
-    // how many dictionaries stand before them
+    // of pages and dictionaries: how many dictionaries stand before the pages
     NoPages(usize),
     TooLong(usize),
     NoWords(usize),
