@@ -1,4 +1,3 @@
-pub mod Some
 pub mod Pages
 pub mod Faults
 pub mod Large

@@ -20,7 +20,7 @@ use Rattle.runs.specs.Shown.{Shown, refuses, shown}
 use Rattle.runs.specs.Second.{judge, judge-comes, pass, pass-cut}
 use Rattle.runs.specs.Walks.{Comes, on-refused, on-repeated, on-packed}
 use Rattle.walks.specs.Covered.{written, covers}
-use Rattle.indexes.specs.Some.{some-ext, some-add, some-same}
+use Rattle.words.specs.SomeBelow.{some-ext, some-add, some-same}
 
 -- ---- a pass
 

@@ -17,7 +17,8 @@ use Rattle.words.specs.Joined.{Small}
 use Rattle.kernels.specs.Lanes.{lanes, lanes-ext, lanes-add, lanes-and, every}
 use Rattle.kernels.specs.Marks.{held, held-lt, holds-all, evens, sum-fits as lanes-fit}
 use Rattle.kernels.specs.Windows.{window-entry}
-use Rattle.indexes.specs.Some.{some-ext, some-add, some-halves, any-add, any-mul, any-masked}
+use Rattle.words.specs.Nonzero.{any-add, any-mul, any-masked}
+use Rattle.words.specs.SomeBelow.{some-ext, some-add, some-halves}
 
 -- ---- sums in lanes: bit w says whether a lane's index is too large
 

@@ -7,3 +7,4 @@ pub mod Appended
 pub mod Tabulated
 pub mod Tests
 pub mod SomeBelow
+pub mod Nonzero

@@ -13,7 +13,7 @@ use mir.ValLaws.{toZ-ofZ}
 use Rattle.rules.specs.Bits.{someBelow}
 use Rattle.rules.specs.Dictionary as Dictionary
 use Rattle.rules.specs.Dictionary.{value}
-use Rattle.indexes.specs.Some.{some-next}
+use Rattle.words.specs.SomeBelow.{some-next}
 use Rattle.dictionary.proofs.judging.unordered.Statement.{statement}
 use Rattle.dictionary.proofs.judging.unordered.Tie as tie
 

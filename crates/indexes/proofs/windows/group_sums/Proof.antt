@@ -7,7 +7,7 @@ use native.Mathlib.Omega.{arith}
 use borrow.Author.Needs.{needs}
 use Rattle.words.specs.Joined.{Small}
 use Rattle.kernels.specs.Lanes.{lanes}
-use Rattle.indexes.specs.Some.{any-masked}
+use Rattle.words.specs.Nonzero.{any-masked}
 use Rattle.indexes.specs.Windows.{window-some, two-fours}
 use Rattle.indexes.proofs.windows.group_sums.Statement.{statement}
 use Rattle.indexes.proofs.windows.group_sums.Tie as tie

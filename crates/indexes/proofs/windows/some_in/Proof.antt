@@ -12,7 +12,7 @@ use Rattle.rules.specs.Bits.{field, someBelow}
 use Rattle.rules.specs.Bits.Order.{lowFirst}
 use Rattle.words.specs.Entries.{place-within}
 use Rattle.kernels.specs.Marks.{every-fits}
-use Rattle.indexes.specs.Some.{any-masked}
+use Rattle.words.specs.Nonzero.{any-masked}
 use Rattle.indexes.specs.Windows.{next-group}
 use Rattle.indexes.proofs.windows.some_in.Statement.{statement}
 use Rattle.indexes.proofs.windows.some_in.Tie as tie
