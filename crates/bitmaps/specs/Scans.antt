@@ -6,7 +6,7 @@ use Prim.Native.Nat.{ℕ, _<_}
 use lib.ListN.{take}
 use Rattle.rules.specs.Bits.{ceil, put}
 use Rattle.rules.specs.Bitmap.{bitmap, tally}
-use Rattle.rules.specs.Answer.{Outcome, accepted, answered, scanned}
+use Rattle.rules.specs.Answer.{accepted, answered, scanned}
 use Rattle.rules.specs.Answer.Outcome.{outcome}
 use Rattle.rules.specs.declared.Answer.{Answer}
 use Rattle.answers.specs.Laws.{accepted-is}
@@ -23,8 +23,3 @@ scanned-is fault n test before after r none put counted =
     let ones : countOnes (take (ceil n 8) after) ≡ tally n test =
     ap (λ (l : List ℕ). countOnes (take (ceil n 8) l)) put ∙ ap countOnes (take-bitmap before n test) ∙ count-bitmap n test in
     accepted-is (tally n test) (bitmap n test) before r fault after none (counted ∙ ap accepted ones) put
-
--- the number of a scan without a fault
-pub scanned-number : (n : ℕ) (test : ℕ → Bool) (before after : List ℕ) (r : Answer) → outcome r after ≡ scanned 0 n test before → r .number ≡ tally n test
-unfolding answered
-scanned-number n test before after r e = let same : r ≡ accepted (tally n test) = cc in ap (λ (a : Answer). a .number) same

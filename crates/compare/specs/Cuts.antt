@@ -10,10 +10,6 @@ use borrow.Author.Tests.{le-ltb, ltb-true, ltb-false}
 use Rattle.signed.specs.Order.{same-ltb, same-leb}
 use Rattle.compare.specs.Range.{cutOf, nextOf}
 
-pub cut-le : (z : ℤ) → cutOf z ≤ 4294967296
-cut-le (pos n) = omega arith
-cut-le (negsuc n) = omega arith
-
 pub next-le : (z : ℤ) → nextOf z ≤ 4294967296
 next-le (pos n) = omega arith
 next-le (negsuc n) = omega arith

@@ -8,7 +8,7 @@ use lib.Dec.{ltb}
 use lib.IntN.{ℤ, pos, negsuc}
 use lib.ListN.{length, getD}
 use lib.Signed.{leZ}
-use borrow.Author.Tests.{lt-ltb, le-ltb, le-leb, ltb-true}
+use borrow.Author.Tests.{lt-ltb, le-ltb, le-leb}
 use Rattle.rules.specs.Comparison.{between, operators, holds}
 use Rattle.rules.specs.Signed.{Within}
 use Rattle.signed.specs.Order.{not-leZ}
@@ -58,10 +58,6 @@ unknown-band op a b e = lt-ltb 7 op (past-table (bands a b) op e)
 pub band-known : (op : ℕ) (a b : ℤ) (band : Band) → bandOf op a b ≡ Of band → ltb 7 op ≡ false
 unfolding bandOf bands
 band-known op a b band e = le-ltb 7 op (omega (arith, in-table (bands a b) op band e))
-
-pub known-band : (op : ℕ) (a b : ℤ) → op < 8 → Known op a b
-known-band op a b h =
-    known (bandOf op a b) (λ e. absurd (omega (arith, ltb-true 7 op (unknown-band op a b e)))) op a b refl
 
 -- the constants' 64 bits hold every x of 64 bits
 least-le : (x : ℤ) → Within 64 x → leZ least x ≡ true

@@ -7,16 +7,14 @@ use lib.Dec.{ltb}
 use lib.IntN.{ℤ, pos}
 use lib.Signed.{ltZ, leZ}
 use borrow.Author.Tests.{lt-ltb, le-ltb, ltb-true, ltb-false}
-use Rattle.rules.specs.Comparison.{between, holds}
+use Rattle.rules.specs.Comparison.{between}
 use Rattle.signed.specs.Order.{not-ltZ}
-use Rattle.compare.specs.Band.{turned, banded, bandOf}
+use Rattle.compare.specs.Band.{turned, banded}
 use Rattle.compare.specs.Range.{inside, ranged, cutOf, nextOf, flipOf, rangeTo, rangeOf}
 use Rattle.compare.specs.Cuts.{next-le, below-cut, below-next}
 use Rattle.compare.specs.Inside.{inside-true, Place, place}
 use Rattle.compare.specs.Inside.Place.{low, high, within}
-use Rattle.compare.specs.Operators.{holds-band}
 use Rattle.compare.specs.declared.bands.Band.{Band}
-use Rattle.compare.specs.declared.bands.Comparison.the-variants.{Of}
 use Rattle.compare.specs.declared.ranges.Range.{Range}
 
 flip-whole : (outside : Bool) → (flipOf outside % 255 ≡ 0) × (flipOf outside < 256)
@@ -99,15 +97,7 @@ range-fits band = range-whole band .fits
 pub range-flip : (band : Band) → rangeOf band .flip % 255 ≡ 0
 range-flip band = range-whole band .flips
 
-pub flip-small : (band : Band) → rangeOf band .flip < 256
-flip-small band = range-whole band .small
-
 pub ranged-band : (band : Band) (x : ℕ) → x < 4294967296 → ranged (rangeOf band) x ≡ banded band (pos x)
 unfolding rangeOf
 ranged-band band x h =
     ranged-ends band (cutOf (band .low)) (nextOf (band .high)) x (pos x) h (below-cut x (band .low) h) (below-next x (band .high) h)
-
-pub ranged-holds : (op : ℕ) (a b : ℤ) (band : Band) (x : ℕ) → x < 4294967296 → bandOf op a b ≡ Of band
-    → ranged (rangeOf band) x ≡ holds op a b (pos x)
-ranged-holds op a b band x h e =
-    ranged-band band x h ∙ holds-band op a b (pos x) band (omega arith) e

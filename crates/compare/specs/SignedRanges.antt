@@ -1,19 +1,14 @@
 -- A band's range of signed entries: it lies below 2^32, its flip is 0 or 255, and it selects the raised entries that the band does.
-use mathlib.Core.Path.{_≡_, _∙_}
-use Prim.Native.Nat.{ℕ}
-use native.Mathlib.Omega.{arith}
+use mathlib.Core.Path.{_≡_}
 use lib.IntN.{ℤ}
-use Rattle.rules.specs.Comparison.{holds}
 use Rattle.rules.specs.Signed.{Within}
 use Rattle.signed.specs.Raised.{raised, raised-lt}
-use Rattle.compare.specs.Band.{banded, bandOf}
+use Rattle.compare.specs.Band.{banded}
 use Rattle.compare.specs.Range.{ranged}
 use Rattle.compare.specs.Ranges.{Whole, to-whole, ranged-ends}
-use Rattle.compare.specs.Operators.{holds-band}
 use Rattle.compare.specs.SignedRange.{signedCut, signedNext, signedRangeOf}
 use Rattle.compare.specs.SignedCuts.{signed-next-le, below-signed-cut, below-signed-next}
 use Rattle.compare.specs.declared.bands.Band.{Band}
-use Rattle.compare.specs.declared.bands.Comparison.the-variants.{Of}
 
 pub signed-range-whole : (band : Band) → Whole (signedRangeOf band)
 unfolding signedRangeOf
@@ -24,8 +19,3 @@ unfolding signedRangeOf
 signed-ranged-band band z h =
     ranged-ends band (signedCut 32 (band .low)) (signedNext 32 (band .high)) (raised 32 z) z (raised-lt 32 z)
     (below-signed-cut 32 z (band .low) h) (below-signed-next 32 z (band .high) h)
-
-pub signed-ranged-holds : (op : ℕ) (a b : ℤ) (band : Band) (z : ℤ) → Within 32 z → bandOf op a b ≡ Of band
-    → ranged (signedRangeOf band) (raised 32 z) ≡ holds op a b z
-signed-ranged-holds op a b band z h e =
-    signed-ranged-band band z h ∙ holds-band op a b z band (omega arith) e

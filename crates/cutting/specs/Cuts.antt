@@ -37,11 +37,6 @@ unfolding stretch
 stretch-le [] = omega arith
 stretch-le (x ∷ s) = omega (arith, equal-le x s)
 
-pub stretch-some : (s : List ℕ) → 0 < length s → 0 < stretch s
-unfolding stretch
-stretch-some [] h = h
-stretch-some (x ∷ s) h = omega arith
-
 -- its entries are the first
 pub stretch-each : (s : List ℕ) (i : ℕ) → i < stretch s → getD s i 0 ≡ getD s 0 0
 unfolding stretch

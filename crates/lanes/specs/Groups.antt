@@ -3,11 +3,9 @@ use mathlib.Core.Path.{_≡_, refl, sym, ap, _∙_}
 use mathlib.Core.Bool.{Bool, true, false}
 use mathlib.Core.List.{List}
 use Prim.Native.Nat.{ℕ, _+_, _-_, _*_, _^_, _≤_, _<_}
-use native.Mathlib.Nat.{zero-add}
 use native.Mathlib.Omega.{arith}
 use lib.Dec.{ltb}
-use lib.ListN.{length, getD, List·getD-eq-default}
-use lib.Seq.{ext-getD}
+use lib.ListN.{getD, List·getD-eq-default}
 use borrow.Author.Tests.{ltb-true, ltb-false}
 use Rattle.rules.specs.Bits.{bit, tabulate}
 use Rattle.rules.specs.Vertical.{lane, plane}
@@ -52,21 +50,3 @@ getD-tabulate-zero m f j none = go (ltb j m) refl
         List·getD-eq-default (tabulate m f) 0 {n = j} (omega (arith, length-tabulate m f)) ∙ sym (none past)
 
 -- ---- a group by itself
-
-pub lane-plane : (w : ℕ) (xs : List ℕ) (j : ℕ) → Small w xs → j < 64 → lane (tabulate w (plane w xs 0)) 0 w j ≡ getD xs j 0
-lane-plane w xs j small h =
-    lane-planes (tabulate w (plane w xs 0)) xs 0 w 0 j small h
-    (λ k l. ap (λ (i : ℕ). getD (tabulate w (plane w xs 0)) i 0) (zero-add k) ∙ getD-tabulate w (plane w xs 0) k 0 l)
-    ∙ ap (λ (i : ℕ). getD xs i 0) (zero-add j)
-
--- of planes whose lanes from m on are 0
-pub plane-lane : (w m : ℕ) (ps : List ℕ) → length ps ≡ w → Small 64 ps → ((j : ℕ) → m ≤ j → j < 64 → lane ps 0 w j ≡ 0)
-    → tabulate w (plane w (tabulate m (lane ps 0 w)) 0) ≡ ps
-plane-lane w m ps size small none =
-    let xs : List ℕ = tabulate m (lane ps 0 w) in
-    let long : length (tabulate w (plane w xs 0)) ≡ w = length-tabulate w (plane w xs 0) in
-    ext-getD 0 (tabulate w (plane w xs 0)) ps (long ∙ sym size)
-    (λ k l. getD-tabulate w (plane w xs 0) k 0 (omega arith)
-    ∙ plane-lanes ps xs 0 w 0 k (omega arith) (small (0 + k))
-    (λ j h. ap (λ (i : ℕ). getD xs i 0) (zero-add j) ∙ getD-tabulate-zero m (lane ps 0 w) j (λ past. none j past h))
-    ∙ ap (λ (i : ℕ). getD ps i 0) (zero-add k))

@@ -1,5 +1,5 @@
 -- After the last plane: which lanes are below an end and which equal it, and the two ends together.
-use mathlib.Core.Path.{_≡_, refl, sym, ap, ap₂, _∙_}
+use mathlib.Core.Path.{_≡_, refl, sym, ap, ap₂}
 use mathlib.Core.Bool.{Bool, true, false, _&&_, _||_}
 use mathlib.Core.List.{List}
 use Prim.Native.Nat.{ℕ, _-_, _^_}
@@ -22,17 +22,6 @@ shift-none : (z : ℤ) → shrZ z (2 ^ 0) ≡ z
 shift-none (pos c) = ap pos (div-one c)
 shift-none (negsuc c) = ap negsuc (div-one c)
 
--- an entry equals z where it lies from z to z
-same-between : (x : ℕ) (z : ℤ) → same x z ≡ between z z (pos x)
-unfolding between
-same-between x (pos c) = go (leb c x) (leb x c) refl refl
-  where
-    go : (s t : Bool) → leb c x ≡ s → leb x c ≡ t → eqb x c ≡ (leb c x && leb x c)
-    go true true e f = rw (e, f) (eq-eqb x c (omega (arith, leb-true c x e, leb-true x c f)))
-    go true false e f = rw (e, f) (ne-eqb x c (omega (arith, leb-false x c f)))
-    go false t e f = rw e (ne-eqb x c (omega (arith, leb-false c x e)))
-same-between x (negsuc c) = refl
-
 -- at most z is below it or equal
 at-most : (x : ℕ) (z : ℤ) → (ltZ (pos x) z || same x z) ≡ leZ (pos x) z
 at-most x (pos c) = go (ltb x c) (leb x c) refl refl
@@ -52,10 +41,6 @@ module _ (n : ℕ) (planes : List ℕ) (w : ℕ) where
   same-end : (z : ℤ) → endAt n planes w 0 z .undecided ≡ word n (λ j. same (lane planes 0 w j) z)
   unfolding endAt
   same-end z = rw (shift-none z)
-
-  -- and those equal to it: from it to it
-  pub undecided-end : (z : ℤ) → endAt n planes w 0 z .undecided ≡ word n (λ j. between z z (pos (lane planes 0 w j)))
-  undecided-end z = same-end z ∙ word-ext n (λ j _. same-between (lane planes 0 w j) z)
 
   -- not below the low end, and below the high end or equal to it
   pub ends-between : (low high : ℤ)

@@ -2,7 +2,7 @@
 use mathlib.Core.Path.{_≡_, refl}
 use mathlib.Core.Bool.{Bool, true, false, cond}
 use mathlib.Core.List.{List}
-use Prim.Native.Nat.{ℕ, _+_, _-_, _*_, _^_, _<_, _≤_}
+use Prim.Native.Nat.{ℕ, _+_, _-_, _*_, _<_, _≤_}
 use native.Mathlib.Omega.{arith}
 use lib.Dec.{ltb, leb}
 use lib.ListN.{length}
@@ -10,9 +10,9 @@ use borrow.Author.Tests.{lt-ltb, le-ltb, le-leb, lt-leb, ltb-false, leb-false}
 use Rattle.rules.specs.Answer.{faulty, _then_, limitFault}
 use Rattle.rules.specs.Runs.{runAt, oneAt}
 use Rattle.rules.specs.declared.Run.{Run}
-use Rattle.rules.specs.declared.Run.the-variants.{Repeated, Packed, Refused}
+use Rattle.rules.specs.declared.Run.the-variants.{Packed, Refused}
 use Rattle.answers.specs.Laws.{within-limits}
-use Rattle.runs.specs.Shown.{ran-repeated, ran-packed}
+use Rattle.runs.specs.Shown.{ran-packed}
 
 module _ (w n covered : ℕ) (page : List ℕ) (at : ℕ) where
   -- an argument beyond its limit
@@ -53,13 +53,6 @@ module _ (w n covered : ℕ) (page : List ℕ) (at : ℕ) where
       let c = other (ltb (length page) at) (unless 5) (b .1) in
       let d = other (leb n covered) (unless 11) (c .1) in
       (d .1, ltb-false 16384 n (b .0), leb-false n covered (d .0))
-
-  pub one-repeated : {count value next : ℕ} → oneAt w n covered page at ≡ Repeated count value next
-      → (0 < count) × (count ≤ 16384) × (value < 2 ^ w) × (at < next) × (next ≤ length page)
-  one-repeated e =
-      let o = one-ran (λ code q. let z : _≡_ {A = ℕ} 0 1 = cc in omega arith) e in
-      let r = ran-repeated w (n - covered) page at (o .0) in
-      (r .0, omega arith, r .2, r .3, r .4)
 
   pub one-packed : {groups start next : ℕ} → oneAt w n covered page at ≡ Packed groups start next
       → (0 < groups) × (8 * groups ≤ 16391) × (next ≡ start + w * groups) × (at < start) × (next ≤ length page)

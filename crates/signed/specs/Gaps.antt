@@ -29,13 +29,3 @@ gap-lt W (pos a) (pos b) h k = omega arith
 gap-lt W (pos a) (negsuc b) h k = omega arith
 gap-lt W (negsuc a) (pos b) h k = pow-pos W
 gap-lt W (negsuc a) (negsuc b) h k = omega arith
-
-pub gap-add : (x y z : ℤ) → leZ z y ≡ true → leZ y x ≡ true → gap x z ≡ gap x y + gap y z
-unfolding gap
-gap-add (pos a) (pos b) (pos c) h k = omega (arith, leb-true c b h, leb-true b a k)
-gap-add (pos a) (pos b) (negsuc c) h k = omega (arith, leb-true b a k)
-gap-add (pos a) (negsuc b) (pos c) h k = absurd (true≢false (sym h))
-gap-add (pos a) (negsuc b) (negsuc c) h k = omega (arith, leb-true b c h)
-gap-add (negsuc a) (pos b) z h k = absurd (true≢false (sym k))
-gap-add (negsuc a) (negsuc b) (pos c) h k = absurd (true≢false (sym h))
-gap-add (negsuc a) (negsuc b) (negsuc c) h k = omega (arith, leb-true b c h, leb-true a b k)

@@ -1,9 +1,8 @@
 -- What is reached from a number by steps, in W bits that wrap.
 use mathlib.Core.Path.{_≡_, refl, sym, ap, _∙_}
 use Prim.Native.Nat.{ℕ, zero, suc, _+_, _%_, _^_, _≤_, _<_}
-use native.Mathlib.Nat.{mod-lt, mod-add-mod, add-mod-mod, add-suc, add-zero}
+use native.Mathlib.Nat.{mod-add-mod, add-mod-mod, add-suc, add-zero}
 use native.Mathlib.Omega.{arith}
-use lib.Pow.{pow-pos}
 
 -- from x by the steps d 0 to d (j - 1)
 unfoldable pub reached : ℕ → ℕ → (ℕ → ℕ) → ℕ → ℕ
@@ -11,11 +10,6 @@ reached W x d zero = x
 reached W x d (suc j) = (reached W x d j + d j) % 2 ^ W
 
 module _ (W x : ℕ) (d : ℕ → ℕ) where
-  pub reached-lt : (j : ℕ) → x < 2 ^ W → reached W x d j < 2 ^ W
-  unfolding reached
-  reached-lt zero h = h
-  reached-lt (suc j) h = mod-lt (reached W x d j + d j) (pow-pos W)
-
   -- steps after steps
   pub reached-add : (a j : ℕ) → reached W (reached W x d a) (λ i. d (a + i)) j ≡ reached W x d (a + j)
   unfolding reached

@@ -1,13 +1,13 @@
 -- The laws of `bit` and `word`, over the width.
-use mathlib.Core.Path.{_≡_, refl, sym, ap, ap₂, _∙_}
+use mathlib.Core.Path.{_≡_, refl, sym, ap, _∙_}
 use mathlib.Core.Bool.{Bool, true, false, not, _&&_, _||_}
 use Prim.Native.Nat.{ℕ, zero, suc, _+_, _-_, _*_, _/_, _%_, _^_, _≤_, _<_, min, max}
-use native.Mathlib.Nat.{not-suc-le-zero, div-one, zero-div, mul-mod-left, one-mul, mul-assoc, add-zero, zero-add, suc-add, pow-suc, add-comm, lt-of-lt-of-le}
+use native.Mathlib.Nat.{not-suc-le-zero, div-one, zero-div, one-mul, mul-assoc, add-zero, zero-add, suc-add, pow-suc, add-comm, lt-of-lt-of-le}
 use native.Mathlib.Numerals.{add-one}
 use native.Mathlib.Omega.{arith}
 use lib.Arith.{lt-one}
-use lib.Pow.{pow-mono, ones-sub-lt, shl-exact, shr-shr, shl-shr, mod-pow-add, low, high}
-use lib.Bits.{bitAnd, bitOr, bitXor, differ, and-step, or-step, xor-step, and-shr, or-shr, xor-shr, and-lt, or-lt}
+use lib.Pow.{pow-mono, ones-sub-lt, shl-exact, shr-shr, mod-pow-add, low, high}
+use lib.Bits.{bitAnd, bitOr, and-step, or-step, and-shr, or-shr, and-lt, or-lt}
 use mir.Val.{boolByte}
 use Rattle.rules.specs.Bits.{bit, flag, word}
 
@@ -57,15 +57,6 @@ bit-and = bit-op bitAnd min and-step (λ a b. omega arith) and-shr
 pub bit-or : (a b k : ℕ) → bit (bitOr a b) k ≡ max (bit a k) (bit b k)
 bit-or = bit-op bitOr max or-step (λ a b. omega arith) or-shr
 
--- `differ` at two bits is 1 where they differ
-differ-small : (x y : ℕ) → x < 2 → y < 2 → differ x y < 2
-differ-small zero y hx hy = hy
-differ-small (suc x) zero hx hy = hx
-differ-small (suc x) (suc y) hx hy = differ-small x y (omega arith) (omega arith)
-
-pub bit-xor : (a b k : ℕ) → bit (bitXor a b) k ≡ differ (bit a k) (bit b k)
-bit-xor = bit-op bitXor differ xor-step (λ a b. differ-small (a % 2) (b % 2) (omega arith) (omega arith)) xor-shr
-
 -- `!a` of a word of n bits
 pub bit-not : (n : ℕ) {a : ℕ} (k : ℕ) → a < 2 ^ n → k < n → bit (2 ^ n - 1 - a) k ≡ 1 - bit a k
 bit-not zero k h l = absurd (not-suc-le-zero l)
@@ -92,13 +83,6 @@ bit-mod (suc n) a zero h = bit-zero (a % 2 ^ suc n) ∙ omega (arith, mod-suc n 
 bit-mod (suc n) a (suc k) h =
     let half : a % 2 ^ suc n / 2 ≡ a / 2 % 2 ^ n = omega (arith, mod-suc n a) in
     sym (bit-half (a % 2 ^ suc n) k) ∙ ap (λ (x : ℕ). bit x k) half ∙ bit-mod n (a / 2) k (omega arith) ∙ bit-half a k
-
--- a shift up moves the bits up, and those below are 0
-pub bit-shl : (a j k : ℕ) → bit (a * 2 ^ j) (j + k) ≡ bit a k
-bit-shl a j k = sym (bit-shr (a * 2 ^ j) j k) ∙ ap (λ (x : ℕ). bit x k) (shl-shr a j)
-
-pub bit-shl-low : (a j k : ℕ) → k < j → bit (a * 2 ^ j) k ≡ 0
-bit-shl-low a j k h = sym (bit-mod j (a * 2 ^ j) k h) ∙ ap (λ (x : ℕ). bit x k) (mul-mod-left a (2 ^ j)) ∙ bit-of-zero k
 
 -- the n bits of r below, and those of a above them
 pub bit-low : (a n : ℕ) {r : ℕ} (k : ℕ) → r < 2 ^ n → k < n → bit (a * 2 ^ n + r) k ≡ bit r k
