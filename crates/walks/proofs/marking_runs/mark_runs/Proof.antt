@@ -1,4 +1,4 @@
--- `streams::marking_runs::mark_runs` meets its contract. The loop's invariant: going on from here leaves what the pass leaves.
+-- `walks::marking_runs::mark_runs` meets its contract. The loop's invariant: going on from here leaves what the pass leaves.
 -- Each run has an entry, so fewer are left with each turn.
 use mathlib.Core.Path.{_≡_, refl, sym, ap, _∙_}
 use mathlib.Core.Bool.{Bool}

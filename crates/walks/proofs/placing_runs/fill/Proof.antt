@@ -1,4 +1,4 @@
--- `streams::placing_runs::fill` meets its contract: each turn fills one place more.
+-- `walks::placing_runs::fill` meets its contract: each turn fills one place more.
 use mathlib.Core.Path.{_≡_}
 use Prim.Native.Nat.{_-_, _≤_}
 use native.Mathlib.Omega.{arith}

@@ -1,4 +1,4 @@
--- `streams::placing_runs::place_body` meets its contract: the part's entries are the page's from byte `start` on.
+-- `walks::placing_runs::place_body` meets its contract: the part's entries are the page's from byte `start` on.
 use mathlib.Core.Path.{ap, _∙_}
 use Prim.Native.Nat.{_-_}
 use native.Mathlib.Omega.{arith}

@@ -1,4 +1,4 @@
--- `streams::placing_runs::place_runs` meets its contract. The loop's invariant: going on from here leaves what the pass leaves.
+-- `walks::placing_runs::place_runs` meets its contract. The loop's invariant: going on from here leaves what the pass leaves.
 -- Each run has an entry, so fewer are left with each turn.
 use mathlib.Core.Path.{_≡_, refl, sym, ap, _∙_}
 use Prim.Native.Nat.{ℕ, _+_, _-_, _*_, _≤_, min}

@@ -1,4 +1,4 @@
--- `streams::placing_runs::place_same` meets its contract: the part that is lent begins at place p.
+-- `walks::placing_runs::place_same` meets its contract: the part that is lent begins at place p.
 use Rattle.words.specs.Puts.{part-put}
 use borrow.Author.Needs.{needs}
 use Rattle.walks.proofs.placing_runs.place_same.Statement.{statement}
