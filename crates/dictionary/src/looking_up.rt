@@ -10,7 +10,7 @@ ghost use Rattle.walks.specs.Placed.{placed};
 use crate::values::value_any;
 use packing::unpacking::unpack;
 use rules::Run;
-use runs::reading::run_at;
+use runs::plain::run_at;
 use words::counts::below;
 
 // One value into the first m places.

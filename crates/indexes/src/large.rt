@@ -13,7 +13,7 @@ use crate::windows::some_groups;
 use bitmaps::counted;
 use compare::ranges::range_to;
 use rules::Run;
-use runs::reading::run_at;
+use runs::plain::run_at;
 use selection::pages::select;
 use words::counts::below;
 

@@ -2,7 +2,7 @@
 ghost use mathlib.Core.Path.{_≡_};
 ghost use Prim.Native.Nat.{_≤_};
 ghost use Rattle.rules.specs.Runs.{read, streamFault};
-use crate::reading::run_at;
+use crate::plain::run_at;
 use rules::Run;
 use words::counts::still_left;
 

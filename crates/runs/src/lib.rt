@@ -3,5 +3,6 @@ pub mod answering;
 pub mod handing;
 pub mod judging;
 pub mod one;
+pub mod plain;
 pub mod reader;
 pub mod reading;

@@ -9,9 +9,10 @@ use native.Mathlib.Omega.{arith}
 use lib.Dec.{ltb}
 use lib.ListN.{length, drop, getD, drop-of-length-le}
 use lib.Seq.{drop-cons}
+use borrow.Author.Tests.{lt-ltb}
 use Rattle.rules.specs.declared.Number.{Number}
 use Rattle.rules.specs.declared.Number.the-variants.{Read, Ended, Beyond}
-use Rattle.rules.specs.Varint.{uleb, below, moved}
+use Rattle.rules.specs.Varint.{uleb, below, moved, numberAt}
 
 -- a number read from place p on, above a sum whose next seven bits have the weight m
 abbrev pub scaled : ℕ → ℕ → ℕ → Number → Number
@@ -43,6 +44,11 @@ pub step : (top k : ℕ) (page : List ℕ) (i : ℕ) → 0 < k → i < length pa
     → uleb top k (drop i page) ≡ cond (ltb (getD page i 0) 128) (Read (getD page i 0) 1) (below (getD page i 0) (uleb top (k - 1) (drop (i + 1) page)))
 step top zero page i z h = absurd (omega arith)
 step top (suc k) page i z h = let e : suc k - 1 ≡ k = omega arith in rw (drop-cons page i 0 h, add-one, e)
+
+-- a byte below 128 is a whole number of 32 bits
+pub one-byte : (page : List ℕ) (at : ℕ) → at < length page → getD page at 0 < 128 → numberAt 32 page at ≡ Read (getD page at 0) (at + 1)
+unfolding numberAt
+one-byte page at h low = rw (step 16 4 page at (omega arith) h, lt-ltb (getD page at 0) 128 low)
 
 -- the last allowed one
 pub final : (top : ℕ) (page : List ℕ) (i : ℕ) → i < length page → uleb top 0 (drop i page) ≡ cond (ltb (getD page i 0) top) (Read (getD page i 0) 1) Beyond

@@ -12,7 +12,7 @@ use compare::ranges::passes;
 use marking::packed::mark_packed;
 use marking::same::mark_same;
 use rules::Run;
-use runs::reading::run_at;
+use runs::plain::run_at;
 use words::counts::below;
 
 // The first m entries of the packed run whose body begins at byte `start`, from bit p on; what follows them on the page is lent with them.

@@ -7,7 +7,7 @@ ghost use Rattle.rules.specs.Bits.Order.{lowFirst};
 ghost use Rattle.walks.specs.Placed.{placed};
 use packing::unpacking::unpack;
 use rules::Run;
-use runs::reading::run_at;
+use runs::plain::run_at;
 use words::counts::below;
 
 // One value into the first m places.
