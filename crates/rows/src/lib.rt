@@ -2,11 +2,11 @@
 pub mod signed_entries;
 
 ghost use mathlib.Core.Path.{_≡_};
-ghost use mathlib.Core.Bool.{true, _&&_};
+ghost use mathlib.Core.Bool.{_&&_};
 ghost use lib.Dec.{eqb};
 ghost use Rattle.lines.specs.Text.{held};
 ghost use Rattle.rows.specs.Asked.{askedFor};
-ghost use Rattle.rows.specs.Read.{Read};
+ghost use Rattle.rows.specs.Read.{Begins, Read, Tells};
 use lines::Line;
 use rules::Answer;
 
@@ -47,43 +47,32 @@ pub fn refused(line: Line, answer: Answer, code: u32) -> bool
     )
 }
 
+// Is the answer an acceptance of n entries.
+pub fn accepted(answer: Answer, n: usize) -> bool
+    ensures { λ r. ⌜ r ≡ (eqb (answer .code) 0 && eqb (answer .number) n) ⌝ }
+{
+    (answer.code == 0) & (answer.number as usize == n)
+}
+
 // The entries that were read.
 pub fn read(line: Line, answer: Answer, places: &[u32], entries: &[u32]) -> bool
-    ensures { λ r. ⌜ (r ≡ true → Read answer (now (places .entry)) (now (entries .entry))) × (Read answer (now (places .entry)) (now (entries .entry)) → r ≡ true) ⌝ }
+    ensures { λ r. ⌜ Tells r (Read answer (now (places .entry)) (now (entries .entry))) ⌝ }
 {
-    told(
-        line.words(b"reads").entries(places, answer.number as usize),
-        is_read(answer, places, entries),
-    )
+    let shown = line.words(b"reads").entries(places, answer.number as usize);
+    let counted = accepted(answer, entries.len());
+    told(shown, counted & begins(places, entries))
 }
 
-// Is the answer an acceptance of as many entries, which the places begin with.
-fn is_read(answer: Answer, places: &[u32], entries: &[u32]) -> bool
-    ensures { λ r. ⌜ (r ≡ true → Read answer (now (places .entry)) (now (entries .entry))) × (Read answer (now (places .entry)) (now (entries .entry)) → r ≡ true) ⌝ }
+// Does a list of entries begin with another.
+fn begins(list: &[u32], front: &[u32]) -> bool
+    ensures { λ r. ⌜ Tells r (Begins (now (list .entry)) (now (front .entry))) ⌝ }
 {
-    let n = entries.len();
-    if answer.code != 0 {
-        return false;
-    }
-    if answer.number as usize != n {
-        return false;
-    }
-    if places.len() < n {
-        return false;
-    }
-    same(&places[..n], entries)
-}
-
-// Are two lists of entries the same.
-fn same(list: &[u32], other: &[u32]) -> bool
-    ensures { λ r. ⌜ (r ≡ true → now (list .entry) ≡ now (other .entry)) × (now (list .entry) ≡ now (other .entry) → r ≡ true) ⌝ }
-{
-    if list.len() != other.len() {
+    if list.len() < front.len() {
         return false;
     }
     let mut i: usize = 0;
-    while i < list.len() {
-        if list[i] != other[i] {
+    while i < front.len() {
+        if list[i] != front[i] {
             return false;
         }
         i += 1;

@@ -1,6 +1,6 @@
--- `rows::read` meets its contract: what it says is what it gives back.
-use mathlib.Core.Path.{sym, _∙_}
+-- `rows::read` meets its contract: by its three tests.
 use borrow.Author.Needs.{needs}
+use Rattle.rows.specs.Read.{tells-read}
 use Rattle.rows.proofs.read.Statement.{statement}
 use Rattle.rows.proofs.read.Tie as tie
 
@@ -16,16 +16,17 @@ cast-entries c = search needs
 entries-requires : tie.Need-entries-requires
 entries-requires c κs = search needs
 
-is-read-requires : tie.Need-is-read-requires
-is-read-requires c κs = search needs
+accepted-requires : tie.Need-accepted-requires
+accepted-requires c κs = search needs
+
+begins-requires : tie.Need-begins-requires
+begins-requires c κs = search needs
 
 told-requires : tie.Need-told-requires
 told-requires c κs = search needs
 
 returns : tie.Need-returns
-returns c =
-    let same = c .before .is-read .ensures in
-    ((λ e. same .0 (sym (c .told .ensures) ∙ e)), (λ r. c .told .ensures ∙ same .1 r))
+returns c = tells-read (c .before .before .before .before .before .before .before .before .before .args .answer) _ _ (c .told .ensures) (c .before .before .accepted .ensures) (c .before .begins .ensures)
 
 pub read-spec : {M : Type 1} → statement M
 read-spec =
@@ -35,6 +36,7 @@ read-spec =
     words-requires
     cast-entries
     entries-requires
-    is-read-requires
+    accepted-requires
+    begins-requires
     told-requires
     returns)

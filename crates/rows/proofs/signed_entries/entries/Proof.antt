@@ -13,11 +13,14 @@ abbrev μ-loop : tie.MeasureT-loop
 loop-holds : tie.Need-loop-holds Inv-loop μ-loop
 loop-holds c = search needs
 
-mul-entry : tie.Need-mul-entry Inv-loop μ-loop
-mul-entry c = search needs
+mul-zigzag : tie.Need-mul-zigzag Inv-loop μ-loop
+mul-zigzag c = search needs
 
-shared-slice-read-entry : tie.Need-shared-slice-read-entry Inv-loop μ-loop
-shared-slice-read-entry c = search needs
+shared-slice-copy-out-zigzag : tie.Need-shared-slice-copy-out-zigzag Inv-loop μ-loop
+shared-slice-copy-out-zigzag c = search needs
+
+zigzag-requires : tie.Need-zigzag-requires Inv-loop μ-loop
+zigzag-requires c κs = search needs
 
 entry-requires : tie.Need-entry-requires Inv-loop μ-loop
 entry-requires c κs = search needs
@@ -44,8 +47,9 @@ entries-spec =
     Inv-loop
     μ-loop
     loop-holds
-    mul-entry
-    shared-slice-read-entry
+    mul-zigzag
+    shared-slice-copy-out-zigzag
+    zigzag-requires
     entry-requires
     add-i
     loop-less
