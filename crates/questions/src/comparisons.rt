@@ -1,7 +1,8 @@
 // The comparison at the end of the words: an operator and its one or two constants.
 ghost use mathlib.Core.Path.{_≡_};
+ghost use Prim.Native.Nat.{_<_, _≤_};
 ghost use lib.ListN.{getD};
-use crate::files;
+ghost use Rattle.questions.specs.Comparisons.{Understood};
 use asking::names::BETWEEN;
 use asking::names::NO_OPERATOR;
 use asking::names::operator;
@@ -20,7 +21,9 @@ pub struct Comparison {
 }
 
 // No comparison, and why.
-fn none(sentence: Sentence) -> Comparison {
+fn none(sentence: Sentence) -> Comparison
+    ensures { λ r. ⌜ Understood r ⌝ }
+{
     tell(sentence);
     Comparison {
         op: 0,
@@ -66,7 +69,22 @@ fn is_constant(at: usize) -> bool {
     }
 }
 
-fn with_one(op: u32, first: usize) -> Comparison {
+// Can the file that a word names be opened.
+fn is_there(at: usize) -> bool {
+    let mut name = io::buffer();
+    let n = os::arg(at, &mut name);
+    let fd = os::open_read(&name[..n]);
+    if fd < 0 {
+        return false;
+    }
+    libc::close(fd);
+    true
+}
+
+fn with_one(op: u32, first: usize) -> Comparison
+    requires { ⌜ op < 6 ⌝ }
+    ensures { λ r. ⌜ Understood r ⌝ }
+{
     let Constant::Is(a) = constant_at(first) else {
         return none(Sentence::NoConstant(first));
     };
@@ -78,7 +96,10 @@ fn with_one(op: u32, first: usize) -> Comparison {
     }
 }
 
-fn with_two(op: u32, first: usize, second: usize) -> Comparison {
+fn with_two(op: u32, first: usize, second: usize) -> Comparison
+    requires { ⌜ (6 ≤ op) × (op < 8) ⌝ }
+    ensures { λ r. ⌜ Understood r ⌝ }
+{
     let Constant::Is(a) = constant_at(first) else {
         return none(Sentence::NoConstant(first));
     };
@@ -94,7 +115,9 @@ fn with_two(op: u32, first: usize, second: usize) -> Comparison {
 }
 
 // The last of m words, or their last three.
-pub fn at_end(words: &[usize], m: usize) -> Comparison {
+pub fn at_end(words: &[usize], m: usize) -> Comparison
+    ensures { λ r. ⌜ Understood r ⌝ }
+{
     if m < 2 {
         return none(Sentence::NoComparison);
     }
@@ -111,25 +134,29 @@ pub fn at_end(words: &[usize], m: usize) -> Comparison {
 }
 
 // Three words, of which the second is no operator of one constant by its word.
-fn longer(before: usize, first: usize, second: usize) -> Comparison {
+fn longer(before: usize, first: usize, second: usize) -> Comparison
+    ensures { λ r. ⌜ Understood r ⌝ }
+{
     let op = named_at(before);
     if op < BETWEEN {
         return none(Sentence::OneConstant(before));
     }
-    if op != NO_OPERATOR {
+    if op < NO_OPERATOR {
         return with_two(op, first, second);
     }
     let digit = numbered_at(before);
-    if digit == 6 || digit == 7 {
+    if BETWEEN <= digit && digit < NO_OPERATOR {
         return with_two(digit, first, second);
     }
     by_number(before, first, second)
 }
 
 // By its number an operator might be a constant of a mistyped one: what stands before it must then be a file.
-fn by_number(before: usize, first: usize, second: usize) -> Comparison {
+fn by_number(before: usize, first: usize, second: usize) -> Comparison
+    ensures { λ r. ⌜ Understood r ⌝ }
+{
     let op = numbered_at(first);
-    if op < BETWEEN && (before == 0 || files::is_there(before)) {
+    if op < BETWEEN && (before == 0 || is_there(before)) {
         return with_one(op, second);
     }
     none(wrong(before, first, second))
@@ -143,7 +170,7 @@ fn wrong(before: usize, first: usize, second: usize) -> Sentence {
     if named_at(first) != NO_OPERATOR {
         return Sentence::TwoConstants(first);
     }
-    if before != 0 && is_constant(first) && !files::is_there(before) {
+    if before != 0 && is_constant(first) && !is_there(before) {
         return Sentence::WrongOperator(before);
     }
     if numbered_at(first) != NO_OPERATOR {

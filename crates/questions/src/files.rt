@@ -13,18 +13,6 @@ pub fn opened(at: usize) -> i32 {
     fd
 }
 
-// Can the file be opened.
-pub fn is_there(at: usize) -> bool {
-    let mut name = io::buffer();
-    let n = os::arg(at, &mut name);
-    let fd = os::open_read(&name[..n]);
-    if fd < 0 {
-        return false;
-    }
-    libc::close(fd);
-    true
-}
-
 // Is the file read to its end; if not, that is said. The file is closed.
 pub fn ended(fd: i32, at: usize) -> bool {
     let mut name = io::buffer();
