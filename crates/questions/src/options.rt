@@ -1,4 +1,7 @@
 // What is asked besides the layout: the options, and the places of the words left.
+ghost use mathlib.Core.Path.{_≡_};
+ghost use Prim.Native.Nat.{_≤_};
+ghost use Rattle.questions.specs.Options.{Left};
 use asking::names::BITMAP;
 use asking::names::ENTRIES;
 use asking::names::NO_OPTION;
@@ -34,7 +37,9 @@ pub struct Asked {
 const DAY: u32 = 86400;
 
 impl Asked {
-    fn new() -> Asked {
+    fn new() -> Asked
+        ensures { λ r. ⌜ r .words ≡ 0 ⌝ }
+    {
         Asked {
             width: 0,
             has_width: false,
@@ -51,14 +56,20 @@ impl Asked {
     }
 
     // Not as it should be, which is said.
-    fn spoiled(mut self, sentence: Sentence) -> Asked {
+    fn spoiled(mut self, sentence: Sentence) -> Asked
+        ensures { λ r. ⌜ r .words ≡ self .words ⌝ }
+    {
         tell(sentence);
         self.wrong = true;
         self
     }
 
     // A word that is no option and no option's.
-    fn word(mut self, at: usize, words: &mut [usize]) -> Asked {
+    fn word(mut self, at: usize, words: &mut [usize]) -> Asked
+        requires { ⌜ 2 ≤ at ⌝ }
+        requires { ⌜ Left (self .words) (now words) ⌝ }
+        ensures { λ r. ⌜ Left (r .words) (now (words .exit)) ⌝ }
+    {
         let k = self.words;
         if words.len() <= k {
             return self;
@@ -70,7 +81,9 @@ impl Asked {
 }
 
 // All arguments after the layout, one after the other.
-pub fn sorted_out(words: &mut [usize]) -> Asked {
+pub fn sorted_out(words: &mut [usize]) -> Asked
+    ensures { λ r. ⌜ Left (r .words) (now (words .exit)) ⌝ }
+{
     let all = os::arg_count();
     let mut asked = Asked::new();
     if MOST < all {
@@ -84,7 +97,11 @@ pub fn sorted_out(words: &mut [usize]) -> Asked {
     finished(asked)
 }
 
-fn argument(mut asked: Asked, at: usize, words: &mut [usize]) -> Asked {
+fn argument(mut asked: Asked, at: usize, words: &mut [usize]) -> Asked
+    requires { ⌜ 2 ≤ at ⌝ }
+    requires { ⌜ Left (asked .words) (now words) ⌝ }
+    ensures { λ r. ⌜ Left (r .words) (now (words .exit)) ⌝ }
+{
     if asked.wrong {
         return asked;
     }
@@ -106,7 +123,9 @@ fn argument(mut asked: Asked, at: usize, words: &mut [usize]) -> Asked {
 }
 
 // The number of the option that waits for one.
-fn number(mut asked: Asked, word: &[u8]) -> Asked {
+fn number(mut asked: Asked, word: &[u8]) -> Asked
+    ensures { λ r. ⌜ r .words ≡ asked .words ⌝ }
+{
     let Count::Is(n) = read_count(word) else {
         return asked.spoiled(Sentence::NoCount(asked.option));
     };
@@ -129,7 +148,11 @@ fn number(mut asked: Asked, word: &[u8]) -> Asked {
 }
 
 // A word by itself: an option, or one of the words left.
-fn opened(mut asked: Asked, at: usize, word: &[u8], words: &mut [usize]) -> Asked {
+fn opened(mut asked: Asked, at: usize, word: &[u8], words: &mut [usize]) -> Asked
+    requires { ⌜ 2 ≤ at ⌝ }
+    requires { ⌜ Left (asked .words) (now words) ⌝ }
+    ensures { λ r. ⌜ Left (r .words) (now (words .exit)) ⌝ }
+{
     if !is_option(word) {
         return asked.word(at, words);
     }
@@ -147,7 +170,9 @@ fn opened(mut asked: Asked, at: usize, word: &[u8], words: &mut [usize]) -> Aske
 }
 
 // No option may be left without what it waits for, and no page has more than 16,384 entries.
-fn finished(asked: Asked) -> Asked {
+fn finished(asked: Asked) -> Asked
+    ensures { λ r. ⌜ r .words ≡ asked .words ⌝ }
+{
     if asked.wrong {
         return asked;
     }

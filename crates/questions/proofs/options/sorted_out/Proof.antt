@@ -1,13 +1,14 @@
--- `questions::options::sorted_out` is safe and ends: each turn leaves fewer arguments.
-use Prim.Native.Nat.{_-_}
+-- `questions::options::sorted_out` meets its contract: each turn takes an argument behind the layout.
+use Prim.Native.Nat.{_-_, _≤_}
 use mathlib.Core.Path.{_≡_}
 use lib.ListN.{length}
 use borrow.Author.Needs.{needs}
+use Rattle.questions.specs.Options.{Left, left-same}
 use Rattle.questions.proofs.options.sorted_out.Statement.{statement}
 use Rattle.questions.proofs.options.sorted_out.Tie as tie
 
 abbrev Inv-loop : tie.InvT-loop
-Inv-loop words₀ all asked₀ at₀ words asked at = length words ≡ length words₀
+Inv-loop words₀ all asked₀ at₀ words asked at = (length words ≡ length words₀) × Left (asked .words) words × (2 ≤ at)
 
 abbrev μ-loop : tie.MeasureT-loop
 μ-loop words₀ all asked₀ at₀ words asked at = all - at
@@ -46,7 +47,7 @@ same-length : tie.Need-same-length Inv-loop μ-loop
 same-length c = search needs
 
 returns-2 : tie.Need-returns-2 Inv-loop μ-loop
-returns-2 c = search needs
+returns-2 c = left-same (c .finished .ensures) (c .before .before .loop .inv .1)
 
 pub sorted-out-spec : {M : Type 1} → statement M
 sorted-out-spec =
