@@ -22,7 +22,7 @@ pub struct Comparison {
 
 // No comparison, and why.
 fn none(sentence: Sentence) -> Comparison
-    ensures { λ r. ⌜ Understood r ⌝ }
+    ensures { λ r. ⌜ Understood 0 r ⌝ }
 {
     tell(sentence);
     Comparison {
@@ -83,7 +83,7 @@ fn is_there(at: usize) -> bool {
 
 fn with_one(op: u32, first: usize) -> Comparison
     requires { ⌜ op < 6 ⌝ }
-    ensures { λ r. ⌜ Understood r ⌝ }
+    ensures { λ r. ⌜ Understood 2 r ⌝ }
 {
     let Constant::Is(a) = constant_at(first) else {
         return none(Sentence::NoConstant(first));
@@ -98,7 +98,7 @@ fn with_one(op: u32, first: usize) -> Comparison
 
 fn with_two(op: u32, first: usize, second: usize) -> Comparison
     requires { ⌜ (6 ≤ op) × (op < 8) ⌝ }
-    ensures { λ r. ⌜ Understood r ⌝ }
+    ensures { λ r. ⌜ Understood 3 r ⌝ }
 {
     let Constant::Is(a) = constant_at(first) else {
         return none(Sentence::NoConstant(first));
@@ -114,9 +114,9 @@ fn with_two(op: u32, first: usize, second: usize) -> Comparison
     }
 }
 
-// The last of m words, or their last three.
+// The last two of m words, or their last three.
 pub fn at_end(words: &[usize], m: usize) -> Comparison
-    ensures { λ r. ⌜ Understood r ⌝ }
+    ensures { λ r. ⌜ Understood m r ⌝ }
 {
     if m < 2 {
         return none(Sentence::NoComparison);
@@ -135,7 +135,7 @@ pub fn at_end(words: &[usize], m: usize) -> Comparison
 
 // Three words, of which the second is no operator of one constant by its word.
 fn longer(before: usize, first: usize, second: usize) -> Comparison
-    ensures { λ r. ⌜ Understood r ⌝ }
+    ensures { λ r. ⌜ Understood 3 r ⌝ }
 {
     let op = named_at(before);
     if op < BETWEEN {
@@ -153,7 +153,7 @@ fn longer(before: usize, first: usize, second: usize) -> Comparison
 
 // By its number an operator might be a constant of a mistyped one: what stands before it must then be a file.
 fn by_number(before: usize, first: usize, second: usize) -> Comparison
-    ensures { λ r. ⌜ Understood r ⌝ }
+    ensures { λ r. ⌜ Understood 2 r ⌝ }
 {
     let op = numbered_at(first);
     if op < BETWEEN && (before == 0 || is_there(before)) {
