@@ -8,7 +8,6 @@ use crate::passing::CELL;
 use crate::passing::CELLS;
 use crate::passing::Day;
 use lines::Line;
-use lines::say;
 
 // How many of the seconds that were read are selected, and the ends of them.
 pub fn sentence(day: Day) -> Line
@@ -85,7 +84,11 @@ fn strip(entries: usize, answered: &[u32; CELLS], selected: &[u32; CELLS]) {
 }
 
 pub fn drawn(entries: usize, answered: &[u32; CELLS], selected: &[u32; CELLS]) {
-    say(b"00 01 02 03 04 05 06 07 08 09 10 11 12 13 14 15 16 17 18 19 20 21 22 23");
+    Line::new()
+        .words(b"00 01 02 03 04 05 06 07 08 09 10 11 12 13 14 15 16 17 18 19 20 21 22 23")
+        .end();
     strip(entries, answered, selected);
-    say(b"20 minutes a character: blank none, . : + by thirds, # all, ? not answered");
+    Line::new()
+        .words(b"20 minutes a character: blank none, . : + by thirds, # all, ? not answered")
+        .end();
 }

@@ -105,26 +105,23 @@ impl Line {
         self.words(&blanks[0..k])
     }
 
-    pub fn write(self, fd: i32) {
+    // Writes the line, and gives back the next one, empty.
+    pub fn write(self, fd: i32) -> Line
+        ensures { λ r. ⌜ held r ≡ [] ⌝ }
+    {
         let text = self.text;
         let all: &[u8; 120] = &text;
         write_front(fd, all, self.used);
         io::write_all(fd, b"\n");
+        Line::new()
     }
 
-    pub fn end(self) {
-        self.write(STDOUT_FILENO);
+    // The same, on standard output.
+    pub fn end(self) -> Line
+        ensures { λ r. ⌜ held r ≡ [] ⌝ }
+    {
+        self.write(STDOUT_FILENO)
     }
-}
-
-pub fn say(words: &[u8]) {
-    Line::new().words(words).end();
-}
-
-// Says what comes next, a blank line before it.
-pub fn topic(words: &[u8]) {
-    Line::new().end();
-    say(words);
 }
 
 // How many blanks bring a line to place `at`, or to its end.

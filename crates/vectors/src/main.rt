@@ -4,11 +4,17 @@ mod dictionary_columns;
 mod horizontal_pages;
 mod run_streams;
 
-use lines::say;
-use lines::topic;
+use lines::Line;
+
+// Says what comes next, a blank line before it.
+fn topic(words: &[u8]) {
+    Line::new().end().words(words).end();
+}
 
 fn main() {
-    say(b"Published vectors: what was asked, what the proved function gave");
+    Line::new()
+        .words(b"Published vectors: what was asked, what the proved function gave")
+        .end();
     if horizontal_pages::shown()
         & run_streams::shown()
         & delta_pages::shown()

@@ -1,5 +1,5 @@
 // Run streams: document 01's examples, and a header of more groups than 32 bits of entries.
-use lines::topic;
+use crate::topic;
 use rows::asked;
 use rows::read;
 use rows::refused;
