@@ -1,3 +1,4 @@
 pub mod Clock
 pub mod Passed
+pub mod Picture
 pub mod Sentence

@@ -1,7 +1,9 @@
-// What the answer looks like: a sentence, and the picture of the day.
+// What the answer looks like: a sentence, and the strip that pictures the day.
 ghost use mathlib.Core.Path.{_≡_};
 ghost use mathlib.Core.List.{[]};
+ghost use Prim.Native.Nat.{_<_};
 ghost use Rattle.lines.specs.Text.{held, laid};
+ghost use Rattle.days.specs.Picture.{secondsOf, byThirds, cellOf, stripOf};
 ghost use Rattle.days.specs.Sentence.{sentenceOf};
 use crate::clocks::clock;
 use crate::passing::CELL;
@@ -31,10 +33,10 @@ pub fn sentence(day: Day) -> Line
 }
 
 // How many of the column's seconds lie in a cell.
-fn seconds_of(cell: usize, entries: usize) -> u32 {
-    if CELLS <= cell {
-        return 0;
-    }
+fn seconds_of(cell: usize, entries: usize) -> u32
+    requires { ⌜ cell < 72 ⌝ }
+    ensures { λ r. ⌜ r ≡ secondsOf cell entries ⌝ }
+{
     let start = cell * CELL;
     if entries <= start {
         return 0;
@@ -46,7 +48,9 @@ fn seconds_of(cell: usize, entries: usize) -> u32 {
 }
 
 // A cell of so many seconds, of which some were answered and some of these selected.
-fn drawn_cell(seconds: u32, answered: u32, selected: u32) -> u8 {
+fn drawn_cell(seconds: u32, answered: u32, selected: u32) -> u8
+    ensures { λ r. ⌜ r ≡ cellOf seconds answered selected ⌝ }
+{
     if answered < seconds {
         return b'?';
     }
@@ -59,19 +63,23 @@ fn drawn_cell(seconds: u32, answered: u32, selected: u32) -> u8 {
     by_thirds(seconds, selected)
 }
 
-fn by_thirds(seconds: u32, selected: u32) -> u8 {
+fn by_thirds(seconds: u32, selected: u32) -> u8
+    ensures { λ r. ⌜ r ≡ byThirds seconds selected ⌝ }
+{
     let third = seconds / 3;
     if selected <= third {
         return b'.';
     }
-    if selected - third <= third {
+    if selected <= 2 * third {
         return b':';
     }
     b'+'
 }
 
 // The strip of cells.
-fn strip(entries: usize, answered: &[u32; CELLS], selected: &[u32; CELLS]) {
+pub fn strip(entries: usize, answered: &[u32; CELLS], selected: &[u32; CELLS]) -> Line
+    ensures { λ r. ⌜ held r ≡ laid [] (stripOf entries (now (answered .entry)) (now (selected .entry))) ⌝ }
+{
     let mut line = Line::new();
     let mut c: usize = 0;
     while c < CELLS {
@@ -80,15 +88,5 @@ fn strip(entries: usize, answered: &[u32; CELLS], selected: &[u32; CELLS]) {
         line = line.words(&[cell]);
         c += 1;
     }
-    line.end();
-}
-
-pub fn drawn(entries: usize, answered: &[u32; CELLS], selected: &[u32; CELLS]) {
-    Line::new()
-        .words(b"00 01 02 03 04 05 06 07 08 09 10 11 12 13 14 15 16 17 18 19 20 21 22 23")
-        .end();
-    strip(entries, answered, selected);
-    Line::new()
-        .words(b"20 minutes a character: blank none, . : + by thirds, # all, ? not answered")
-        .end();
+    line
 }

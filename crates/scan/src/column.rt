@@ -12,6 +12,7 @@ use days::seconds::needed;
 use days::seconds::start_of;
 use dictionary::judging::dictionary_fault;
 use libc::STDERR_FILENO;
+use lines::Line;
 use pages::answering;
 use pages::layouts::Question;
 use questions::comparisons;
@@ -155,10 +156,21 @@ fn told(q: Question, asked: Asked, entries: usize, dictionary: &[u8], files: &[u
         sentence.write(STDERR_FILENO);
     } else {
         sentence.end();
-        picture::drawn(entries, &answered, &selected);
+        drawn(picture::strip(entries, &answered, &selected));
     }
     tell(Sentence::Lost(day.lost));
     tell(Sentence::Missing(entries, files.len()));
+}
+
+// The strip of the day's cells, between the hours and what its characters mean.
+fn drawn(strip: Line) {
+    Line::new()
+        .words(b"00 01 02 03 04 05 06 07 08 09 10 11 12 13 14 15 16 17 18 19 20 21 22 23")
+        .end();
+    strip
+        .end()
+        .words(b"20 minutes a character: blank none, . : + by thirds, # all, ? not answered")
+        .end();
 }
 
 // The pages one after the other.

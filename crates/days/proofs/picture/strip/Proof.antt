@@ -1,11 +1,17 @@
--- `days::picture::strip` is safe and ends: each turn leaves fewer cells.
-use Prim.Native.Nat.{_-_}
+-- `days::picture::strip` meets its contract: each turn lays out one cell more.
+use mathlib.Core.Path.{_≡_, _∙_, ap}
+use mathlib.Core.List.{[]}
+use Prim.Native.Nat.{ℕ, _≤_, _-_}
+use native.Mathlib.Omega.{arith}
 use borrow.Author.Needs.{needs}
+use Rattle.rules.specs.Bits.{tabulate}
+use Rattle.lines.specs.Text.{held, laid}
+use Rattle.days.specs.Picture.{cellAt, stripOf, one-more-cell}
 use Rattle.days.proofs.picture.strip.Statement.{statement}
 use Rattle.days.proofs.picture.strip.Tie as tie
 
 abbrev Inv-loop : tie.InvT-loop
-Inv-loop entries answered selected line₀ c₀ line c = Unit {0}
+Inv-loop entries answered selected line₀ c₀ line c = (c ≤ 72) × (held line ≡ laid [] (tabulate c (cellAt entries answered selected)))
 
 abbrev μ-loop : tie.MeasureT-loop
 μ-loop entries answered selected line₀ c₀ line c = 72 - c
@@ -14,7 +20,8 @@ new-requires : tie.Need-new-requires Inv-loop μ-loop
 new-requires c κs = search needs
 
 loop-holds : tie.Need-loop-holds Inv-loop μ-loop
-loop-holds c = search needs
+unfolding laid tabulate
+loop-holds c = (search needs, c .new .ensures)
 
 seconds-of-requires : tie.Need-seconds-of-requires Inv-loop μ-loop
 seconds-of-requires c κs = search needs
@@ -47,13 +54,22 @@ loop-less : tie.Need-loop-less Inv-loop μ-loop
 loop-less c = search needs
 
 loop-again : tie.Need-loop-again Inv-loop μ-loop
-loop-again c = search needs
-
-end-requires : tie.Need-end-requires Inv-loop μ-loop
-end-requires c κs = search needs
+loop-again c =
+    let d = c .before .before in
+    let s = d .before .before .before in
+    let l = s .before .before in
+    let a = l .before .before .args in
+    let f = cellAt (a .entries) (a .answered .now) (a .selected .now) in
+    let cell : d .drawn-cell .result ≡ f (l .loop .c) = rw (s .seconds-of .ensures) at (d .drawn-cell .ensures) in
+    (search needs, one-more-cell f (l .loop .c) (held (l .loop .line)) (held (c .words .result)) (l .loop .inv .1) (rw cell at (c .words .ensures)))
 
 returns : tie.Need-returns Inv-loop μ-loop
-returns c = search needs
+unfolding stripOf
+returns c =
+    let l = c .before in
+    let a = l .before .before .args in
+    let all : l .loop .c ≡ 72 = omega arith in
+    l .loop .inv .1 ∙ ap (λ (n : ℕ). laid [] (tabulate n (cellAt (a .entries) (a .answered .now) (a .selected .now)))) all
 
 pub strip-spec : {M : Type 1} → statement M
 strip-spec =
@@ -74,5 +90,4 @@ strip-spec =
     add-c
     loop-less
     loop-again
-    end-requires
     returns)
