@@ -23,8 +23,7 @@ pub fn answered(q: Question, dictionary: &[u8], at: usize, n: usize, bitmap: &mu
         return false;
     }
     if q.layout == PLANES && size % 8 != 0 {
-        tell(Sentence::NoWords(at));
-        return false;
+        return tell(Sentence::NoWords(at));
     }
     is_accepted(layouts::scan(q, dictionary, &page[..size], n, bitmap), at)
 }
@@ -33,8 +32,7 @@ fn is_accepted(answer: Answer, at: usize) -> bool {
     if answer.code == 0 {
         return true;
     }
-    tell(Sentence::Refused(at, answer.code));
-    false
+    tell(Sentence::Refused(at, answer.code))
 }
 
 // The page's bytes of the bitmap, written where a file is lent; a refused page's are 0.

@@ -4,8 +4,6 @@ mod column;
 use asking::names::NO_LAYOUT;
 use asking::names::is_help;
 use asking::names::layout;
-use libc::STDERR_FILENO;
-use libc::STDOUT_FILENO;
 use telling::Sentence;
 use telling::tell;
 
@@ -18,11 +16,11 @@ fn main() {
 // By the first word: a layout, or help.
 fn asked(word: &[u8]) {
     if word.len() == 0 {
-        telling::usage(STDERR_FILENO);
+        tell(Sentence::Usage);
         return;
     }
     if is_help(word) {
-        telling::usage(STDOUT_FILENO);
+        tell(Sentence::Help);
         return;
     }
     let named = layout(word);

@@ -1,11 +1,17 @@
-// What is said on standard error, in sentences that say what to do; and how the program is used.
+// What the program says besides its answer, in sentences that say what to do: all but its help on standard error.
+ghost use mathlib.Core.Path.{_≡_};
+ghost use mathlib.Core.Bool.{false};
 use days::clocks::clock;
 use days::seconds;
 use libc::STDERR_FILENO;
+use libc::STDOUT_FILENO;
 use lines::Line;
 
 // Where nothing else is said, a number is a word's place on the command line.
 pub enum Sentence {
+    // how the program is used: where nothing is asked, and where that is
+    Usage,
+    Help,
     ManyWords,
     LongWord,
     WrongLayout,
@@ -36,8 +42,13 @@ pub enum Sentence {
     Missing(usize, usize),
 }
 
-pub fn tell(sentence: Sentence) {
+// Says it; the answer is no, for whoever has to give up.
+pub fn tell(sentence: Sentence) -> bool
+    ensures { λ r. ⌜ r ≡ false ⌝ }
+{
     match sentence {
+        Sentence::Usage => usage(STDERR_FILENO),
+        Sentence::Help => usage(STDOUT_FILENO),
         Sentence::ManyWords => say(b"scan: at most 1023 words are taken after the program's name."),
         Sentence::LongWord => os::fail(b"scan: a word is too long"),
         Sentence::WrongLayout => {
@@ -59,6 +70,7 @@ pub fn tell(sentence: Sentence) {
         ),
         _ => tell_of_comparison(sentence),
     }
+    false
 }
 
 fn tell_of_comparison(sentence: Sentence) {
@@ -213,7 +225,7 @@ fn missing(entries: usize, pages: usize) {
     }
 }
 
-pub fn usage(fd: i32) {
+fn usage(fd: i32) {
     io::write_all(
         fd,
         b"usage: scan LAYOUT [OPTION...] PAGE... OPERATOR CONSTANT [CONSTANT]\n\
