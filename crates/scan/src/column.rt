@@ -1,6 +1,7 @@
 // A whole column: what is asked of it judged, its pages answered one after the other, the answer told.
 ghost use Prim.Native.Nat.{_≤_};
 ghost use lib.ListN.{length};
+use crate::keeping;
 use asking::names::DICTIONARY;
 use asking::names::needs_width;
 use days::passing::CELLS;
@@ -105,15 +106,12 @@ fn with_dictionary(q: Question, asked: Asked, entries: usize, at: usize, files: 
         with_bitmap(q, asked, entries, &[], files);
         return;
     }
-    let fd = files::opened(at);
-    if fd < 0 {
-        return;
-    }
     let mut dictionary = [0u8; VALUES];
-    let n = io::read_full(fd, &mut dictionary);
-    if !files::ended(fd, at) {
+    let file = files::read(at, &mut dictionary);
+    if !file.is_whole {
         return;
     }
+    let n = file.bytes;
     let fault = dictionary_fault(&dictionary[..n]);
     if fault != 0 {
         tell(Sentence::Refused(at, fault));
@@ -129,7 +127,7 @@ fn with_bitmap(q: Question, asked: Asked, entries: usize, dictionary: &[u8], fil
         told(q, asked, entries, dictionary, files, -1);
         return;
     }
-    let out = files::made(asked.bitmap);
+    let out = keeping::made(asked.bitmap);
     if out < 0 {
         return;
     }
@@ -218,7 +216,7 @@ fn page_answered(
     let mut bitmap = [0u8; BITMAP];
     let n = entries_of(k, entries);
     let is_answered = answering::answered(q, dictionary, at, n, &mut bitmap);
-    answering::kept(out, &bitmap, n);
+    keeping::kept(out, &bitmap, n);
     if !is_answered {
         return day.loses();
     }

@@ -1,5 +1,6 @@
 // The program `scan`: which seconds of a column satisfy a comparison, and where in the day they lie.
 mod column;
+mod keeping;
 
 use asking::names::NO_LAYOUT;
 use asking::names::is_help;
