@@ -1,4 +1,5 @@
 // A page's file, answered.
+ghost use Rattle.pages.specs.Answered.{Answered};
 use crate::layouts;
 use crate::layouts::Question;
 use asking::names::PLANES;
@@ -10,7 +11,9 @@ use telling::tell;
 const BYTES: usize = 163840;
 
 // The page's bitmap; false where the page is refused or cannot be read, which is said.
-pub fn answered(q: Question, dictionary: &[u8], at: usize, n: usize, bitmap: &mut [u8]) -> bool {
+pub fn answered(q: Question, dictionary: &[u8], at: usize, n: usize, bitmap: &mut [u8]) -> bool
+    ensures { λ r. ⌜ Answered q (now (dictionary .entry)) n (now (bitmap .entry)) r (now (bitmap .exit)) ⌝ }
+{
     let mut page = [0u8; BYTES];
     let file = files::read(at, &mut page);
     if !file.is_whole {

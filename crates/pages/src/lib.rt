@@ -1,3 +1,3 @@
-// A page of a column: scanned by its layout, read from its file, its bits kept.
+// A page of a column: scanned by its layout, and answered from its file.
 pub mod answering;
 pub mod layouts;
