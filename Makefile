@@ -16,17 +16,20 @@ help:
 	@echo 'make figures what the last `make test` saw, into docs/FIGURES.md and the end of docs/SHAMS.md'
 	@echo 'make clean   remove what was built (target/)'
 
+# rt waits for all crates that it began together: of four at once, two processors lose less than of two.
+PROVE = RT_JOBS=$${RT_JOBS:-4} rt check
+
 # Nothing is shown of the proofs unless one fails.
 run: need-rt
 	@echo 'Proving the program and what it stands on; the first time this takes some minutes.' >&2
-	@said=$$(rt check scan 2>&1) || { printf '%s\n' "$$said"; exit 1; }
+	@said=$$($(PROVE) scan 2>&1) || { printf '%s\n' "$$said"; exit 1; }
 	@tools/sample-day
 
 test: need-rt need-cargo need-cc need-c++
 	@tools/gate
 
 lib: need-rt
-	rt check cahermisk
+	$(PROVE) cahermisk
 	tools/native-lib
 
 PREFIX = /usr/local

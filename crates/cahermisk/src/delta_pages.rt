@@ -3,10 +3,10 @@ ghost use mathlib.Core.Path.{_≡_};
 ghost use Rattle.rules.specs.Answer.Outcome.{outcome};
 ghost use Rattle.rules.specs.Delta as Delta;
 ghost use Rattle.rules.specs.DeltaWriter as DeltaWriter;
-use delta::reading::unpack;
 use delta::scanning::scan;
-use delta::writing::pack;
+use readers::delta_pages::unpack;
 use rules::Answer;
+use writers::delta_pages::pack;
 
 #[no_mangle]
 pub extern "C" fn cahermisk_delta_scan(

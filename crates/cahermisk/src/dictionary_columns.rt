@@ -2,8 +2,8 @@
 ghost use mathlib.Core.Path.{_≡_};
 ghost use Rattle.rules.specs.Answer.Outcome.{outcome};
 ghost use Rattle.rules.specs.Dictionary as Dictionary;
-use dictionary::reading::unpack;
 use dictionary::scanning::scan;
+use readers::dictionary_columns::unpack;
 use rules::Answer;
 
 #[no_mangle]

@@ -3,10 +3,10 @@ ghost use mathlib.Core.Path.{_≡_};
 ghost use Rattle.rules.specs.Bits.Order.{lowFirst};
 ghost use Rattle.rules.specs.Answer.Outcome.{outcome};
 ghost use Rattle.rules.specs.Horizontal as Horizontal;
-use horizontal::reading::unpack;
 use horizontal::scanning::scan;
-use horizontal::writing::pack;
+use readers::horizontal_pages::unpack;
 use rules::Answer;
+use writers::horizontal_pages::pack;
 
 #[no_mangle]
 pub extern "C" fn cahermisk_horizontal_scan(

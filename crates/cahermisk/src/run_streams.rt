@@ -3,12 +3,12 @@ ghost use mathlib.Core.Path.{_≡_};
 ghost use Rattle.rules.specs.Answer.Outcome.{outcome};
 ghost use Rattle.rules.specs.RunWriter as RunWriter;
 ghost use Rattle.rules.specs.Runs as Runs;
+use readers::run_streams::unpack;
 use rules::Answer;
 use rules::RunAnswer;
 use runs::answering::one_answer;
-use streams::reading::unpack;
 use streams::scanning::scan;
-use streams::writing::pack;
+use writers::run_streams::pack;
 
 #[no_mangle]
 pub extern "C" fn cahermisk_runs_scan(

@@ -2,10 +2,10 @@
 ghost use mathlib.Core.Path.{_≡_};
 ghost use Rattle.rules.specs.Answer.Outcome.{outcome};
 ghost use Rattle.rules.specs.Vertical as Vertical;
+use readers::vertical_columns::unpack;
 use rules::Answer;
-use vertical::reading::unpack;
 use vertical::scanning::scan;
-use vertical::writing::pack;
+use writers::vertical_columns::pack;
 
 #[no_mangle]
 pub extern "C" fn cahermisk_vertical_scan(

@@ -1,5 +1,3 @@
-// Delta pages: scan, unpack, pack.
+// Delta pages: scan.
 pub mod judging;
-pub mod reading;
 pub mod scanning;
-pub mod writing;

@@ -1,7 +1,5 @@
-// Dictionary columns: scan, unpack.
+// Dictionary columns: scan.
 pub mod judging;
-pub mod looking_up;
-pub mod reading;
 pub mod scanning;
 pub mod searching;
 pub mod values;

@@ -1,5 +1,3 @@
-// Bare horizontal pages: scan, unpack, pack.
+// Bare horizontal pages: scan.
 pub mod judging;
-pub mod reading;
 pub mod scanning;
-pub mod writing;

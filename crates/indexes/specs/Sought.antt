@@ -15,7 +15,7 @@ use Rattle.rules.specs.Grammar.{Cut}
 use Rattle.words.specs.Entries.{field-window, place-within}
 use Rattle.answers.specs.Laws.{then-found, then-none}
 use Rattle.runs.specs.Exact.{exact, accepted}
-use Rattle.packing.specs.Filled.{body-fits}
+use Rattle.runs.specs.Parts.{body-fits}
 use Rattle.runs.specs.Shown.{Shown, refuses, shown}
 use Rattle.runs.specs.Second.{judge, judge-comes, pass, pass-cut}
 use Rattle.runs.specs.Walks.{Comes, on-refused, on-repeated, on-packed}

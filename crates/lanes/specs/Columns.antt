@@ -16,7 +16,7 @@ use Rattle.words.specs.Joined.{Small}
 use Rattle.words.specs.SomeBelow.{none-below}
 use Rattle.words.specs.Tabulated.{length-tabulate, getD-tabulate, tabulate-ext, small-tabulate, put-tabulate-add}
 use Rattle.packing.specs.Large.{small-of, large-of}
-use Rattle.lanes.specs.Lanes.{lane-lt}
+use Rattle.planes.specs.Lanes.{lane-lt}
 use Rattle.lanes.specs.Unused.{unused-zero}
 use Rattle.lanes.specs.Groups.{lane-planes, plane-lanes, getD-tabulate-zero}
 

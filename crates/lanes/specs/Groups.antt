@@ -12,7 +12,7 @@ use Rattle.rules.specs.Vertical.{lane, plane}
 use Rattle.words.specs.Bits.{ext}
 use Rattle.words.specs.Joined.{Small}
 use Rattle.words.specs.Tabulated.{length-tabulate, getD-tabulate}
-use Rattle.lanes.specs.Lanes.{lane-lt, bit-lane}
+use Rattle.planes.specs.Lanes.{lane-lt, bit-lane}
 use Rattle.lanes.specs.Planes.{plane-lt, bit-plane}
 
 -- ---- words from `at` on, and the entries of group g

@@ -14,7 +14,7 @@ use Rattle.words.specs.Entries.{number-short}
 use Rattle.words.specs.Joined.{Small}
 use Rattle.words.specs.Tabulated.{length-tabulate, getD-tabulate, small-tabulate, tabulate-ext}
 use Rattle.packing.specs.Digits.{joined-digit}
-use Rattle.lanes.specs.Lanes.{bit-lane}
+use Rattle.planes.specs.Lanes.{bit-lane}
 use Rattle.lanes.specs.Planes.{plane-lt, bit-plane}
 use Rattle.lanes.specs.Groups.{getD-tabulate-zero}
 use Rattle.lanes.specs.Turned.{turned, turned-fits, turned-byte}

@@ -1,4 +1,3 @@
-pub mod Lanes
 pub mod Planes
 pub mod Groups
 pub mod Fields

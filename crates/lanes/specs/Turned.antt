@@ -13,7 +13,7 @@ use Rattle.rules.specs.Vertical.{lane}
 use Rattle.words.specs.Joined.{Small, joined-lt}
 use Rattle.words.specs.Tabulated.{length-tabulate, getD-tabulate, small-tabulate}
 use Rattle.packing.specs.Digits.{joined-digit}
-use Rattle.lanes.specs.Lanes.{lane-lt}
+use Rattle.planes.specs.Lanes.{lane-lt}
 use Rattle.lanes.specs.Fields.{fields, fields-ext, fields-add, fields-mul, fields-mask}
 
 -- of n words from word `at` on

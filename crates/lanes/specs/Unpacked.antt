@@ -10,7 +10,7 @@ use Rattle.rules.specs.Bits.{bit, tabulate, put}
 use Rattle.rules.specs.Vertical.{lane}
 use Rattle.words.specs.Puts.{put-over}
 use Rattle.words.specs.Tabulated.{length-tabulate, getD-tabulate, tabulate-ext}
-use Rattle.lanes.specs.Lanes.{lane-none, lane-lt}
+use Rattle.planes.specs.Lanes.{lane-none, lane-lt}
 use Rattle.lanes.specs.Turned.{turned, turned-byte}
 use Rattle.lanes.specs.Rows.{behind, grown, getD-put-front}
 

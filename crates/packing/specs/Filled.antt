@@ -25,10 +25,6 @@ use Rattle.packing.specs.Packed.{length-packed, packed-joined}
 pub whole-groups : (w groups : ℕ) → pageBytes w (8 * groups) ≡ w * groups
 whole-groups w groups = omega (arith, mul-assoc 8 groups w, mul-comm groups w)
 
--- fewer entries take no more
-pub body-fits : (w groups m : ℕ) → m ≤ 8 * groups → m * w ≤ 8 * (w * groups)
-body-fits w groups m h = omega (arith, mul-le-mul-right w h, mul-assoc 8 groups w, mul-comm groups w)
-
 -- ---- entries of 0 behind the others
 
 -- they add nothing to the number

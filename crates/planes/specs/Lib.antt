@@ -3,3 +3,4 @@ pub mod Digits
 pub mod Starts
 pub mod Steps
 pub mod Groups
+pub mod Lanes

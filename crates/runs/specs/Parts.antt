@@ -1,9 +1,9 @@
--- The part of a page from a place on: its length, and the number that its first bytes make.
+-- The part of a page from a place on: its length, and the number that its first bytes make; the bits of a packed run's first entries.
 use mathlib.Core.Path.{_≡_, refl, sym, ap, _∙_}
 use mathlib.Core.Bool.{Bool, true, false}
 use mathlib.Core.List.{List}
 use Prim.Native.Nat.{ℕ, _+_, _-_, _*_, _%_, _^_, _≤_, _<_}
-use native.Mathlib.Nat.{add-comm, mod-eq-of-lt, lt-of-lt-of-le}
+use native.Mathlib.Nat.{add-comm, mod-eq-of-lt, lt-of-lt-of-le, mul-le-mul-right, mul-assoc, mul-comm}
 use native.Mathlib.Omega.{arith}
 use lib.Dec.{leb}
 use lib.ListN.{length, take, drop, length-drop}
@@ -31,3 +31,7 @@ first-bytes l k m bytes = go (leb k (length l)) refl
         let few : length l < k = leb-false k (length l) e in
         rw (take-all (k + m) l (omega arith), take-all k l (omega arith))
         (mod-eq-of-lt (lt-of-lt-of-le (joined-lt 8 l bytes) (pow-mono {i = 8 * length l} {j = 8 * k} (omega arith))))
+
+-- the first entries of a packed run are within its groups'
+pub body-fits : (w groups m : ℕ) → m ≤ 8 * groups → m * w ≤ 8 * (w * groups)
+body-fits w groups m h = omega (arith, mul-le-mul-right w h, mul-assoc 8 groups w, mul-comm groups w)

@@ -1,5 +1,3 @@
-// Run streams: scan, unpack, pack.
+// Run streams: scan.
 pub mod judging;
-pub mod reading;
 pub mod scanning;
-pub mod writing;

@@ -1,7 +1,7 @@
 // Delta pages: Parquet's two examples in blocks of 128 with 4 miniblocks, and with their own block size of 8, which is refused; pages that other writers may write.
 use crate::topic;
-use delta::reading::unpack;
 use lines::Line;
+use readers::delta_pages::unpack;
 use rows::GAVE;
 use rows::refused;
 use rows::signed_entries::read;

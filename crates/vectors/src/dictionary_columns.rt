@@ -1,7 +1,7 @@
 // Dictionary columns: document 01's example, with the value 310 and without it, and what other writers may write.
 use crate::topic;
-use dictionary::reading::unpack;
 use lines::Line;
+use readers::dictionary_columns::unpack;
 use rows::GAVE;
 use rows::refused;
 use rows::signed_entries::read;

@@ -1,6 +1,6 @@
 // Bare horizontal pages: Parquet's bit packing example, the numbers 0 to 7 at width 3.
 use crate::topic;
-use horizontal::reading::unpack;
+use readers::horizontal_pages::unpack;
 use rows::asked;
 use rows::read;
 

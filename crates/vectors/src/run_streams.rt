@@ -1,9 +1,9 @@
 // Run streams: document 01's examples, and a header of more groups than 32 bits of entries.
 use crate::topic;
+use readers::run_streams::unpack;
 use rows::asked;
 use rows::read;
 use rows::refused;
-use streams::reading::unpack;
 
 pub fn shown() -> bool {
     topic(b"Run streams");

@@ -1,4 +1,3 @@
 pub mod Unused
 pub mod Columns
 pub mod Chosen
-pub mod Groups

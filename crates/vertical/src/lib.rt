@@ -1,6 +1,4 @@
-// Bit planes: scan, unpack, pack.
+// Bit planes: scan.
 pub mod groups;
 pub mod judging;
-pub mod reading;
 pub mod scanning;
-pub mod writing;

@@ -16,7 +16,7 @@ use Rattle.bitmaps.specs.Bitmaps.{bitmap-none, appended-bitmap}
 use Rattle.runs.specs.Second.{putAll, pass, pass-cut}
 use Rattle.marking.specs.Packed.{part-word}
 use Rattle.walks.specs.Covered.{written, covers}
-use Rattle.packing.specs.Filled.{body-fits}
+use Rattle.runs.specs.Parts.{body-fits}
 
 -- m entries' bits are put behind those in place
 abbrev pub marks : (ℕ → Bool) → ℕ → ℕ → (ℕ → ℕ) → List ℕ → List ℕ

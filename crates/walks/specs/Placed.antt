@@ -12,7 +12,7 @@ use Rattle.words.specs.Entries.{field-window, place-within}
 use Rattle.words.specs.Tabulated.{tabulate-none, tabulate-ext, put-tabulate-add}
 use Rattle.runs.specs.Second.{putAll, pass, pass-cut}
 use Rattle.walks.specs.Covered.{written, covers}
-use Rattle.packing.specs.Filled.{body-fits}
+use Rattle.runs.specs.Parts.{body-fits}
 
 -- ---- each entry as the value that stands for it
 

@@ -1,3 +1,2 @@
-// A run stream walked from run to run: each marks its bits, or fills its places. What a walk leaves stands in specs/.
+// A run stream walked from run to run: each marks its bits. What a walk leaves, also in places, stands in specs/.
 pub mod marking_runs;
-pub mod placing_runs;

@@ -6,7 +6,8 @@ use lib.ListN.{drop, length-drop}
 use borrow.Author.Needs.{needs}
 use Rattle.words.specs.Joined.{small-drop}
 use Rattle.packing.specs.Large.{small-of, large-part}
-use Rattle.packing.specs.Filled.{whole-groups, body-fits, put-filled}
+use Rattle.packing.specs.Filled.{whole-groups, put-filled}
+use Rattle.runs.specs.Parts.{body-fits}
 use Rattle.cutting.proofs.laying.put_groups.Statement.{statement}
 use Rattle.cutting.proofs.laying.put_groups.Tie as tie
 

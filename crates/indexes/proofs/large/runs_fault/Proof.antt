@@ -11,7 +11,7 @@ use borrow.Author.Tests.{lt-ltb, le-ltb}
 use Rattle.rules.specs.Runs.{runAt}
 use Rattle.rules.specs.declared.Run.the-variants.{Repeated, Packed}
 use Rattle.answers.specs.Laws.{then-found}
-use Rattle.packing.specs.Filled.{body-fits}
+use Rattle.runs.specs.Parts.{body-fits}
 use Rattle.runs.specs.Shown.{ran-repeated, ran-packed}
 use Rattle.runs.specs.Walks.{on-end}
 use Rattle.runs.specs.Second.{judge}

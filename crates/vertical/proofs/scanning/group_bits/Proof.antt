@@ -13,7 +13,7 @@ use Rattle.rules.specs.Bits.{word}
 use Rattle.rules.specs.Comparison.{between}
 use Rattle.rules.specs.Vertical.{lane}
 use Rattle.words.specs.Bits.{word-ext}
-use Rattle.lanes.specs.Lanes.{lane-part}
+use Rattle.planes.specs.Lanes.{lane-part}
 use Rattle.vertical.specs.Chosen.{lanes-inside, lanes-outside}
 use Rattle.vertical.proofs.scanning.group_bits.Statement.{statement}
 use Rattle.vertical.proofs.scanning.group_bits.Tie as tie

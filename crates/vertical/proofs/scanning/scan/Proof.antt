@@ -6,7 +6,7 @@ use mir.ValLaws.{toZ-ofZ}
 use borrow.Author.Needs.{needs}
 use Rattle.rules.specs.Answer.{limitFault}
 use Rattle.rules.specs.Vertical as Vertical
-use Rattle.lanes.specs.Lanes.{lane-fits}
+use Rattle.planes.specs.Lanes.{lane-fits}
 use Rattle.scans.specs.Arguments.{argumentsOf}
 use Rattle.scans.specs.Laws.{scan-bad, unsigned-limits, unsigned-good}
 use Rattle.vertical.proofs.scanning.scan.Statement.{statement}

@@ -10,7 +10,7 @@ use Rattle.rules.specs.Bits.{word}
 use Rattle.rules.specs.Runs.{runAt}
 use Rattle.rules.specs.declared.Run.the-variants.{Repeated, Packed}
 use Rattle.compare.specs.Range.{ranged}
-use Rattle.packing.specs.Filled.{body-fits}
+use Rattle.runs.specs.Parts.{body-fits}
 use Rattle.runs.specs.Shown.{ran-repeated, ran-packed}
 use Rattle.words.specs.Appended.{appended}
 use Rattle.walks.specs.Marked.{marks, marked, marked-pass, marked-body}
