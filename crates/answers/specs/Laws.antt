@@ -1,13 +1,13 @@
 -- The two ways in which a call ends, for every layout and operation.
-use mathlib.Core.Path.{_≡_, refl, sym, ap, _∙_}
+use mathlib.Core.Path.{_≡_, refl, sym}
 use mathlib.Core.List.{List}
-use Prim.Native.Nat.{ℕ, zero, suc, _≤_, _<_}
+use Prim.Native.Nat.{ℕ, zero, suc, _≤_}
 use native.Mathlib.Omega.{arith}
 use mathlib.Core.Bool.{Bool, true, false}
 use lib.Dec.{ltb}
 use borrow.Author.Tests.{ltb-false}
 use Rattle.rules.specs.Bits.{put}
-use Rattle.rules.specs.Answer.{faulty, _then_, countFault, limitFault, roomFault, Outcome, accepted, refusal, answered}
+use Rattle.rules.specs.Answer.{faulty, _then_, countFault, limitFault, roomFault, accepted, refusal, answered}
 use Rattle.rules.specs.Answer.Outcome.{outcome}
 use Rattle.rules.specs.declared.Answer.{Answer}
 

@@ -6,12 +6,11 @@ use mathlib.Core.Option.{Option, none, some}
 use Prim.Native.Nat.{ℕ, suc, _+_, _-_, _*_, _^_, _<_, _≤_}
 use native.Mathlib.Numerals.{add-one}
 use native.Mathlib.Omega.{arith}
-use lib.Dec.{ltb, leb, eqb}
+use lib.Dec.{ltb, leb}
 use lib.ListN.{length, drop, getD, drop-of-length-le}
 use lib.Seq.{drop-cons}
 use borrow.Author.Tests.{ltb-true, ltb-false, leb-true, lt-ltb, le-ltb, ne-eqb}
 use Rattle.asking.specs.declared.numbers.Constant.{Constant}
-use Rattle.asking.specs.declared.numbers.Count.{Count}
 use Rattle.asking.specs.declared.numbers.Count.the-variants.{Is, Nothing}
 use Rattle.asking.specs.Numbers.{isDigit, onward, spelled, counted, atMost, below, fitting, capped, further}
 

@@ -4,7 +4,7 @@ use mathlib.Core.List.{List, [], _∷_}
 use mathlib.Core.Option.{Option, none, some}
 use Prim.Native.Nat.{ℕ, _+_, _-_, _*_, _^_}
 use lib.Dec.{eqb, ltb, leb}
-use lib.IntN.{ℤ, pos, negsuc}
+use lib.IntN.{pos, negsuc}
 use lib.ListN.{length, drop, getD}
 use Rattle.asking.specs.declared.numbers.Constant.{Constant}
 use Rattle.asking.specs.declared.numbers.Constant.the-variants.{Is as Exact, Nothing as Nowhere}

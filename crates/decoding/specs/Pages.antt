@@ -1,14 +1,14 @@
 -- The entries of a page, block after block.
-use mathlib.Core.Path.{_≡_, refl, sym, ap, subst, _∙_}
+use mathlib.Core.Path.{_≡_, refl, sym, ap, _∙_}
 use mathlib.Core.List.{List, [], _++_, append-assoc}
 use Prim.Native.Nat.{ℕ, zero, suc, _+_, _-_, _*_, _/_, _%_, _^_, _≤_, _<_, min}
 use native.Mathlib.Nat.{suc-mul}
 use native.Mathlib.Omega.{arith}
-use lib.IntN.{ℤ, pos}
+use lib.IntN.{ℤ}
 use lib.ListN.{length, drop, length-append}
 use lib.Seq.{drop-at}
-use Rattle.rules.specs.Signed.{zigzag, modulo, signed, Within}
-use Rattle.rules.specs.Delta.{headAt, needed, blockAt, bodyBytes, Deltas, also, blocksAt, read, pageFault, entryOf, pageEntry}
+use Rattle.rules.specs.Signed.{zigzag, modulo, signed}
+use Rattle.rules.specs.Delta.{headAt, needed, Deltas, also, blocksAt, read, pageFault, entryOf, pageEntry}
 use Rattle.rules.specs.Delta.Deltas.{good, bad}
 use Rattle.rules.specs.declared.Block.the-variants.{Laid}
 use Rattle.rules.specs.declared.Head.the-variants.{Opened}
@@ -18,13 +18,13 @@ use Rattle.signed.specs.Zigzags.{zigzag-within}
 use Rattle.signed.specs.Entries.{step, raised-entry, entry-reached}
 use Rattle.blocks.specs.Shapes.{Shape}
 use Rattle.blocks.specs.Needed.{needed-le, Covers, covers}
-use Rattle.blocks.specs.Laying.{LaidAt, block-laid}
+use Rattle.blocks.specs.Laying.{block-laid}
 use Rattle.blocks.specs.Turns.{Comes, blockHere, deltasHere, next-block, next-done, Rest, good-rest}
 use Rattle.blocks.specs.Heads.{head-places}
 use Rattle.blocks.specs.Faults.{Holds, good-page}
 use Rattle.decoding.specs.declared.miniblocks.Miniblocks.{Miniblocks}
 use Rattle.octets.specs.Passed.{Passed, Starts, Grows, passed-none, passed-more}
-use Rattle.decoding.specs.Minis.{deltasIn, Judged, delta-at, length-block}
+use Rattle.decoding.specs.Minis.{Judged, delta-at, length-block}
 
 abbrev pub deltasOf : Deltas → List ℤ
 deltasOf (good ds) = ds

@@ -8,7 +8,7 @@ use lib.Pow.{pow-pos}
 use Rattle.rules.specs.Bits.{put}
 use Rattle.rules.specs.Bitmap.{bitmap}
 use Rattle.rules.specs.Signed.{zigzag, Within}
-use Rattle.rules.specs.Delta.{headAt, Deltas, blocksAt, begun, opened, read, pageEntry}
+use Rattle.rules.specs.Delta.{Deltas, blocksAt, begun, opened, read, pageEntry}
 use Rattle.rules.specs.Delta.Deltas.{good, bad}
 use Rattle.rules.specs.declared.Head.{Head}
 use Rattle.signed.specs.Raised.{raised}

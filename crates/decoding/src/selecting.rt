@@ -1,11 +1,10 @@
 // The entries of a judged page, of which a range selects some, into the bitmap.
 ghost use mathlib.Core.Path.{_≡_};
 ghost use mathlib.Core.Bool.{true};
-ghost use Prim.Native.Nat.{_+_, _-_, _%_, _≤_, _<_};
+ghost use Prim.Native.Nat.{_+_, _-_, _≤_, _<_};
 ghost use lib.ListN.{length};
 ghost use Rattle.rules.specs.Bits.{ceil, put};
 ghost use Rattle.rules.specs.Bitmap as Bitmap;
-ghost use Rattle.rules.specs.Signed.{zigzag};
 ghost use Rattle.rules.specs.Delta.{shaped, blocksAt, read, pageFault, pageEntry};
 ghost use Rattle.rules.specs.Delta.Deltas.{good};
 ghost use Rattle.signed.specs.Raised.{raised};

@@ -6,9 +6,8 @@ use Prim.Native.Nat.{ℕ, _≤_, _<_}
 use native.Mathlib.Omega.{arith}
 use lib.Dec.{ltb}
 use lib.IntN.{ℤ}
-use lib.ListN.{length}
 use lib.Signed.{ltZ, leZ}
-use borrow.Author.Tests.{not-true, ltb-true, ltb-false}
+use borrow.Author.Tests.{not-true}
 use Rattle.rules.specs.Bitmap.{tally}
 use Rattle.rules.specs.Dictionary.{value, count, dictionaryFault}
 use Rattle.signed.specs.Order.{not-leZ, leZ-trans}

@@ -1,19 +1,18 @@
 -- The values of a dictionary: signed numbers of 32 bits, which ascend where it has no fault.
-use mathlib.Core.Path.{_≡_, refl, sym, ap, ap₂, _∙_}
-use mathlib.Core.Bool.{Bool, true, false, not, _||_, true≢false}
+use mathlib.Core.Path.{_≡_, refl, ap, ap₂, _∙_}
+use mathlib.Core.Bool.{Bool, true, false, not, _||_}
 use mathlib.Core.List.{List}
-use Prim.Native.Nat.{ℕ, zero, suc, _+_, _-_, _*_, _/_, _%_, _≤_, _<_}
+use Prim.Native.Nat.{ℕ, zero, suc, _+_, _-_, _*_, _%_, _≤_, _<_}
 use native.Mathlib.Nat.{add-mul}
 use native.Mathlib.Omega.{arith}
 use lib.Dec.{ltb, eqb}
-use lib.IntN.{ℤ, pos}
+use lib.IntN.{pos}
 use lib.ListN.{length, take, drop, getD, drop-of-length-le, List·getD-append}
 use lib.Signed.{leZ}
 use borrow.Author.Tests.{ltb-true, ltb-false, eqb-true, not-false}
 use Rattle.rules.specs.Bits.{joined, number, put, tabulate, field}
 use Rattle.rules.specs.Bits.Order.{lowFirst}
 use Rattle.rules.specs.Signed.{signed, Within}
-use Rattle.rules.specs.Answer.{faulty}
 use Rattle.rules.specs.Dictionary.{value, count, unordered, dictionaryFault}
 use Rattle.words.specs.Tests.{neither}
 use Rattle.words.specs.Tabulated.{length-tabulate, getD-tabulate, tabulate-ext, put-tabulate-on}

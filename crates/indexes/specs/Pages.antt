@@ -1,16 +1,15 @@
 -- The laws of index pages: the width byte, and the run stream behind it.
-use mathlib.Core.Path.{_≡_, refl, ap, _∙_}
+use mathlib.Core.Path.{_≡_, refl}
 use mathlib.Core.Bool.{Bool, true, false, cond}
 use mathlib.Core.List.{List, [], _∷_}
-use Prim.Native.Nat.{ℕ, zero, suc, _^_, _≤_, _<_}
-use native.Mathlib.Nat.{lt-of-lt-of-le}
+use Prim.Native.Nat.{ℕ, _^_, _≤_, _<_}
 use native.Mathlib.Omega.{arith}
 use lib.Dec.{ltb}
 use lib.ListN.{length, drop, getD}
 use borrow.Author.Tests.{ltb-false}
 use Rattle.rules.specs.Bits.{put, tabulate}
 use Rattle.rules.specs.Bitmap.{bitmap}
-use Rattle.rules.specs.Runs.{Stream, read, streamFault, streamEntry}
+use Rattle.rules.specs.Runs.{read, streamFault}
 use Rattle.rules.specs.Runs.Stream.{bad}
 use Rattle.rules.specs.Dictionary.{indexes, indexAt}
 use Rattle.walks.specs.Marked.{marked}

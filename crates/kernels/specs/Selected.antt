@@ -1,7 +1,7 @@
 -- Which entries of a page pass a test, as a bitmap.
 use mathlib.Core.Bool.{Bool}
 use mathlib.Core.List.{List}
-use Prim.Native.Nat.{ℕ, _*_}
+use Prim.Native.Nat.{ℕ}
 use Rattle.rules.specs.Bits.{entry}
 use Rattle.rules.specs.Bits.Order.{lowFirst}
 use Rattle.rules.specs.Bitmap.{bitmap}

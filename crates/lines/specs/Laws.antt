@@ -5,7 +5,7 @@ use Prim.Native.Nat.{ℕ, zero, suc, _+_, _-_, _≤_, _<_, min}
 use native.Mathlib.Numerals.{add-one}
 use native.Mathlib.Omega.{arith}
 use lib.ListN.{take, length, set, getD, replicate, length-take, length-append, length-map}
-use lib.Seq.{take-all, take-append-le, take-suc, take-suc-set, length-take-le}
+use lib.Seq.{take-all, take-append-le, take-suc, take-suc-set}
 use Rattle.lines.specs.Text.{laid, spelled, padding}
 
 take-more : (n : ℕ) (l a : List ℕ) → take n (take n l ++ a) ≡ take n (l ++ a)

@@ -2,13 +2,12 @@
 use mathlib.Core.Path.{_≡_, refl, sym}
 use mathlib.Core.Bool.{true, false, true≢false}
 use mathlib.Core.List.{List, []}
-use Prim.Native.Nat.{ℕ, zero, suc, _-_, _/_, _^_, _<_}
+use Prim.Native.Nat.{ℕ, _-_, _/_, _^_, _<_}
 use native.Mathlib.Omega.{arith}
 use lib.Dec.{T, ltb, eqb}
 use lib.IntN.{ℤ, pos, negsuc, natAbs}
 use lib.Signed.{ltZ, mag, nonNeg}
 use borrow.Author.Tests.{lt-ltb, ne-eqb, ltb-true}
-use Rattle.rules.specs.Bits.{word}
 use Rattle.rules.specs.Vertical.{lane}
 use Rattle.words.specs.Bits.{word-none, word-all}
 use Rattle.planes.specs.Ends.{endOf, endAt}

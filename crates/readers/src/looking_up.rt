@@ -1,7 +1,6 @@
 // Each run of an index page fills its own places with the values that its indexes stand for.
 ghost use mathlib.Core.Path.{_≡_};
 ghost use Prim.Native.Nat.{_+_, _*_, _%_, _≤_};
-ghost use lib.IntN.{ℤ};
 ghost use lib.ListN.{length, getD};
 ghost use Rattle.rules.specs.Bits.{ceil, field, put, tabulate};
 ghost use Rattle.rules.specs.Bits.Order.{lowFirst};

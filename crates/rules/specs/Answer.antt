@@ -4,7 +4,7 @@ use mathlib.Core.List.{List, [], _∷_}
 use Prim.Native.Nat.{ℕ, zero, suc, _^_}
 use lib.Dec.{ltb, leb}
 use lib.ListN.{length}
-use Rattle.rules.specs.Bits.{ceil, put}
+use Rattle.rules.specs.Bits.{put}
 use Rattle.rules.specs.Bitmap.{bitmap, tally}
 use Rattle.rules.specs.declared.Answer.{Answer}
 

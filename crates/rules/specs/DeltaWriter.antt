@@ -1,5 +1,5 @@
 -- The writer of delta pages, over the width W of the kind: block size 128, 4 miniblocks, shortest numbers.
-use mathlib.Core.Bool.{Bool, true, false, cond, _||_}
+use mathlib.Core.Bool.{Bool, false, cond, _||_}
 use mathlib.Core.List.{List, [], _∷_, _++_, map}
 use Prim.Native.Nat.{ℕ, zero, suc, _+_, _/_, max}
 use lib.Dec.{eqb}

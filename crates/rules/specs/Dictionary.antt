@@ -1,7 +1,7 @@
 -- Dictionary columns: a dictionary of signed 32-bit values, and an index page.
 use mathlib.Core.Bool.{Bool, not, cond, _||_}
 use mathlib.Core.List.{List, [], _∷_}
-use Prim.Native.Nat.{ℕ, suc, _+_, _-_, _*_, _/_, _%_}
+use Prim.Native.Nat.{ℕ, suc, _-_, _*_, _/_, _%_}
 use lib.IntN.{ℤ}
 use lib.Dec.{ltb, leb, eqb}
 use lib.Signed.{leZ}

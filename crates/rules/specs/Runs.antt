@@ -9,7 +9,7 @@ use Rattle.rules.specs.Bits.{ceil, tabulate, number, entry}
 use Rattle.rules.specs.Bits.Order.{lowFirst}
 use Rattle.rules.specs.Comparison.{holds}
 use Rattle.rules.specs.Answer.{_then_, limitFault, operatorFault, roomFault, Outcome, scanned, written}
-use Rattle.rules.specs.Varint.{numberAt, numberFault}
+use Rattle.rules.specs.Varint.{numberAt}
 use Rattle.rules.specs.declared.Number.{Number}
 use Rattle.rules.specs.declared.Number.the-variants.{Read, Ended, Beyond}
 use Rattle.rules.specs.declared.Run.{Run}

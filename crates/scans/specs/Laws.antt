@@ -7,7 +7,7 @@ use native.Mathlib.Omega.{arith}
 use lib.IntN.{ℤ, pos}
 use Rattle.rules.specs.Comparison.{holds}
 use Rattle.rules.specs.Signed.{Within}
-use Rattle.rules.specs.Answer.{_then_, countFault, limitFault, operatorFault, Outcome, refusal, scanned}
+use Rattle.rules.specs.Answer.{_then_, countFault, limitFault, operatorFault, refusal, scanned}
 use Rattle.rules.specs.Answer.Outcome.{outcome}
 use Rattle.rules.specs.declared.Answer.{Answer}
 use Rattle.answers.specs.Laws.{then-none, then-found, within-count, within-limits, refused-is}
@@ -19,7 +19,6 @@ use Rattle.compare.specs.declared.bands.Band.{Band}
 use Rattle.compare.specs.declared.bands.Comparison.{Comparison}
 use Rattle.compare.specs.declared.bands.Comparison.the-variants.{Of, Unknown}
 use Rattle.scans.specs.Arguments.{judged, argumentsOf}
-use Rattle.scans.specs.declared.Arguments.{Arguments}
 use Rattle.scans.specs.declared.Arguments.the-variants.{Good, Bad}
 
 -- what good arguments tell, after the limits' code

@@ -1,8 +1,8 @@
 -- The entries of a column that a band selects, group after group.
-use mathlib.Core.Path.{_≡_, refl, sym, ap, ap₂, _∙_}
-use mathlib.Core.Bool.{Bool, true, false, not}
+use mathlib.Core.Path.{_≡_, ap, ap₂, _∙_}
+use mathlib.Core.Bool.{true, false}
 use mathlib.Core.List.{List}
-use Prim.Native.Nat.{ℕ, zero, suc, _+_, _-_, _*_, _/_, _%_, _^_, _≤_, _<_}
+use Prim.Native.Nat.{ℕ, _+_, _-_, _*_, _%_, _^_, _≤_, _<_}
 use native.Mathlib.Omega.{arith}
 use lib.IntN.{pos}
 use lib.ListN.{length}
@@ -13,7 +13,7 @@ use Rattle.rules.specs.Vertical.{lane, entry}
 use Rattle.words.specs.Bits.{word-lt, word-ext, word-not, word-mod}
 use Rattle.words.specs.Puts.{put-none}
 use Rattle.bitmaps.specs.Bitmaps.{next-word}
-use Rattle.compare.specs.Band.{turned, banded}
+use Rattle.compare.specs.Band.{banded}
 use Rattle.compare.specs.declared.bands.Band.{Band}
 
 -- as a bitmap of the first n

@@ -1,18 +1,18 @@
 -- The unused lanes of the last group, judged all at once: the group's words put over each other.
 use mathlib.Core.Path.{_≡_, refl, sym, ap, ap₂, _∙_}
-use mathlib.Core.Bool.{Bool, true, false, _||_}
+use mathlib.Core.Bool.{Bool, false, _||_}
 use mathlib.Core.List.{List}
-use Prim.Native.Nat.{ℕ, zero, suc, _+_, _-_, _*_, _/_, _%_, _^_, _≤_, _<_, max}
+use Prim.Native.Nat.{ℕ, zero, suc, _+_, _-_, _*_, _/_, _%_, _^_, _<_, max}
 use native.Mathlib.Nat.{pow-suc}
 use native.Mathlib.Omega.{arith}
 use lib.Dec.{ltb}
-use lib.ListN.{length, getD}
+use lib.ListN.{getD}
 use lib.Bits.{bitOr, or-lt}
 use lib.Pow.{pow-pos, shr-lt}
-use borrow.Author.Tests.{lt-ltb, le-ltb, ltb-true, ltb-false}
+use borrow.Author.Tests.{lt-ltb, le-ltb}
 use Rattle.rules.specs.Bits.{ceil, bit, someBelow}
 use Rattle.rules.specs.Vertical.{lane, entry, unused}
-use Rattle.words.specs.Bits.{bit-lt, bit-or, bit-of-zero, bit-zero, bit-half, bit-shr}
+use Rattle.words.specs.Bits.{bit-or, bit-of-zero, bit-zero, bit-half, bit-shr}
 
 -- w words from `at` on, put over each other
 unfoldable pub orTo : List ℕ → ℕ → ℕ → ℕ

@@ -1,20 +1,19 @@
 -- What a stream's runs leave, one after the other, where each run's entries below n are put behind those of the runs before it.
 use mathlib.Core.Path.{_≡_, refl, sym, ap, _∙_}
 use mathlib.Core.Bool.{Bool, true, false}
-use mathlib.Core.List.{List, [], _∷_, _++_}
+use mathlib.Core.List.{List, _∷_, _++_}
 use Prim.Native.Nat.{ℕ, zero, suc, _+_, _-_, _*_, _≤_, _<_, min}
 use native.Mathlib.Nat.{add-assoc}
 use native.Mathlib.Omega.{arith}
 use lib.Dec.{leb}
 use borrow.Author.Tests.{leb-true, leb-false}
-use lib.ListN.{length, getD, replicate, List·getD-append}
+use lib.ListN.{getD, replicate, List·getD-append}
 use lib.Seq.{getD-append-add}
-use Rattle.rules.specs.Bits.{tabulate, entry}
+use Rattle.rules.specs.Bits.{entry}
 use Rattle.rules.specs.Bits.Order.{lowFirst}
 use Rattle.rules.specs.Runs.{Piece, entries, pieceEntries, cutEntries}
 use Rattle.rules.specs.Runs.Piece.{same, packed}
-use Rattle.rules.specs.Grammar.{OneRun, Cut}
-use Rattle.rules.specs.Grammar.OneRun.{repeats, packs}
+use Rattle.rules.specs.Grammar.{Cut}
 use Rattle.rules.specs.Grammar.Cut.{done, next}
 use Rattle.words.specs.Tabulated.{getD-tabulate}
 use Rattle.runs.specs.Entries.{length-piece}

@@ -11,7 +11,7 @@ use Rattle.rules.specs.declared.Run.the-variants.{Repeated, Packed, Refused}
 use Rattle.runs.specs.Walks.{Comes}
 use Rattle.runs.specs.Walks as Walks
 use Rattle.runs.specs.Second.{writing, pass, pass-comes}
-use Rattle.runs.specs.Shown.{ran-repeated, ran-packed}
+use Rattle.runs.specs.Shown.{ran-repeated}
 use Rattle.walks.specs.Covered.{written}
 
 module _ {O : Type 0} (n : ℕ) (write : ℕ → ℕ → (ℕ → ℕ) → O → O) (w : ℕ) (page : List ℕ) (x : O) where

@@ -1,7 +1,6 @@
 -- The laws of a page's fields: through a window of bytes, of a part of the page, with zeros behind it.
 use mathlib.Core.Path.{_≡_, refl, sym, ap, ap₂, _∙_}
-use mathlib.Core.Bool.{Bool, true, false}
-use mathlib.Core.List.{List, [], _∷_, _++_}
+use mathlib.Core.List.{List}
 use Prim.Native.Nat.{ℕ, zero, suc, _+_, _-_, _*_, _/_, _%_, _^_, _≤_, _<_}
 use native.Mathlib.Nat.{lt-of-lt-of-le, suc-mul, mul-le-mul-right}
 use native.Mathlib.Omega.{arith}

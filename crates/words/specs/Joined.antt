@@ -1,15 +1,15 @@
 -- Numbers of d bits laid end to end, over d: their bits, and the numbers that pieces of them spell. Bytes are the case of 8.
 use mathlib.Core.Path.{_≡_, refl, sym, ap, ap₂, _∙_}
 use mathlib.Core.Bool.{Bool, true, false}
-use mathlib.Core.List.{List, [], _∷_, _++_}
+use mathlib.Core.List.{List, [], _∷_}
 use Prim.Native.Nat.{ℕ, zero, suc, _+_, _-_, _*_, _/_, _%_, _^_, _≤_, _<_}
-use native.Mathlib.Nat.{mod-one, pow-suc, add-comm, zero-div, mod-eq-of-lt, div-eq-of-lt, mod-eq-sub-mod, div-eq-sub-div, mod-lt, lt-of-lt-of-le, mul-zero, mul-suc}
+use native.Mathlib.Nat.{mod-one, pow-suc, add-comm, mod-eq-of-lt, div-eq-of-lt, mod-eq-sub-mod, div-eq-sub-div, mul-suc}
 use native.Mathlib.Numerals.{add-one}
 use native.Mathlib.Omega.{arith}
 use lib.Dec.{ltb}
-use lib.ListN.{length, take, drop, getD, length-drop}
+use lib.ListN.{length, take, drop, getD}
 use lib.Seq.{getD-drop}
-use lib.Pow.{shr-shr, pow-pos, pow-mono, pow-add}
+use lib.Pow.{shr-shr, pow-pos, pow-add}
 use lib.Arith.{digits-lt}
 use borrow.Author.Tests.{ltb-true, ltb-false}
 use Rattle.rules.specs.Bits.{bit, joined, bytes, bitOf, bitAt, piece, Order}

@@ -1,8 +1,8 @@
 -- `bitmaps::ones_in` meets its contract. Both loops keep one invariant: the ones are those of the bytes passed.
 use mathlib.Core.Path.{_≡_, ap}
-use Prim.Native.Nat.{ℕ, _+_, _-_, _*_, _/_, _≤_}
+use Prim.Native.Nat.{_+_, _-_, _*_, _/_, _≤_}
 use native.Mathlib.Omega.{arith}
-use lib.ListN.{length, take, getD}
+use lib.ListN.{take, getD}
 use lib.Count.{ones, ones-le}
 use Rattle.words.specs.Bytes.{number-one}
 use Rattle.bitmaps.specs.Counts.{countOnes, count-take}

@@ -1,5 +1,4 @@
 -- `asking::names::operator_number` meets its contract: one byte, from `0` to `7`.
-use mathlib.Core.Path.{_≡_}
 use native.Mathlib.Omega.{arith}
 use lib.ListN.{length, getD}
 use borrow.Author.Needs.{needs}

@@ -1,5 +1,5 @@
 -- `asking::numbers::read_constant` meets its contract: by its sign, and what is kept of the digits.
-use mathlib.Core.Path.{_≡_, _∙_}
+use mathlib.Core.Path.{_∙_}
 use native.Mathlib.Omega.{arith}
 use lib.ListN.{length, drop, getD}
 use borrow.Author.Needs.{needs}

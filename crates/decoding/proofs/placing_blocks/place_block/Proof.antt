@@ -1,6 +1,6 @@
 -- `decoding::placing_blocks::place_block` meets its contract: a miniblock more each turn.
 use mathlib.Core.Path.{_≡_, refl}
-use Prim.Native.Nat.{ℕ, _+_, _-_, _*_, _/_, _≤_, _<_, min}
+use Prim.Native.Nat.{_+_, _-_, _*_, _/_, _≤_, _<_, min}
 use native.Mathlib.Omega.{arith}
 use lib.ListN.{length, drop}
 use borrow.Author.Needs.{needs}
@@ -9,7 +9,7 @@ use Rattle.words.specs.Puts.{part-rest}
 use Rattle.octets.specs.Steps.{packedStep}
 use Rattle.octets.specs.Passed.{Passed}
 use Rattle.octets.specs.Written.{places, places-none, places-more}
-use Rattle.decoding.specs.Minis.{Judged, widthOf, Turn, turn-start, wanted-here, body-ends, turn-next, turn-end}
+use Rattle.decoding.specs.Minis.{widthOf, Turn, turn-start, wanted-here, body-ends, turn-next, turn-end}
 use Rattle.decoding.proofs.placing_blocks.place_block.Statement.{statement}
 use Rattle.decoding.proofs.placing_blocks.place_block.Tie as tie
 

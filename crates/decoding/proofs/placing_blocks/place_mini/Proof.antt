@@ -1,6 +1,6 @@
 -- `decoding::placing_blocks::place_mini` meets its contract: up to eight entries more each turn.
 use mathlib.Core.Path.{_≡_, refl}
-use Prim.Native.Nat.{ℕ, _+_, _-_, _%_, _≤_, min}
+use Prim.Native.Nat.{_+_, _-_, _%_, _≤_, min}
 use native.Mathlib.Omega.{arith}
 use lib.ListN.{length}
 use borrow.Author.Needs.{needs}

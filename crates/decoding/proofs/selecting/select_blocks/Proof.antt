@@ -1,6 +1,6 @@
 -- `decoding::selecting::select_blocks` meets its contract: a block more each turn, and then the entry that may be left.
 use mathlib.Core.Path.{_≡_, refl, sym, ap, _∙_}
-use Prim.Native.Nat.{ℕ, _+_, _-_, _*_, _/_, _≤_, _<_, min}
+use Prim.Native.Nat.{_+_, _-_, _*_, _/_, _≤_, min}
 use native.Mathlib.Omega.{arith}
 use lib.ListN.{length}
 use borrow.Author.Needs.{needs}
@@ -8,7 +8,7 @@ use Rattle.rules.specs.declared.Block.the-variants.{Laid}
 use Rattle.rules.specs.Delta.{needed, blockAt, blocksAt}
 use Rattle.signed.specs.Entries.{step}
 use Rattle.compare.specs.Range.{ranged}
-use Rattle.blocks.specs.Shapes.{Shape, shape}
+use Rattle.blocks.specs.Shapes.{shape}
 use Rattle.blocks.specs.Needed.{needed-le}
 use Rattle.blocks.specs.Turns.{blockHere, deltasHere, refused, never}
 use Rattle.octets.specs.Passed.{Passed}

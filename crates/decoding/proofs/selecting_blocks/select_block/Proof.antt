@@ -1,18 +1,16 @@
 -- `decoding::selecting_blocks::select_block` meets its contract: a miniblock more each turn.
-use mathlib.Core.Path.{_≡_, refl, sym, ap, ap₂, _∙_}
-use mathlib.Core.List.{List}
-use Prim.Native.Nat.{ℕ, _+_, _-_, _*_, _/_, _≤_, _<_, min}
+use mathlib.Core.Path.{_≡_, refl}
+use Prim.Native.Nat.{_+_, _-_, _*_, _/_, _≤_, _<_, min}
 use native.Mathlib.Omega.{arith}
-use lib.ListN.{length, getD, drop}
+use lib.ListN.{length, drop}
 use borrow.Author.Needs.{needs}
 use Rattle.rules.specs.Signed.{zigzag, modulo}
 use Rattle.words.specs.Puts.{part-rest}
-use Rattle.signed.specs.Reached.{reached}
 use Rattle.compare.specs.Range.{ranged}
 use Rattle.octets.specs.Steps.{packedStep}
 use Rattle.octets.specs.Passed.{Passed}
 use Rattle.octets.specs.Written.{selects, selects-none, selects-more}
-use Rattle.decoding.specs.Minis.{Judged, widthOf, Turn, turn-start, wanted-here, body-ends, turn-next, turn-end}
+use Rattle.decoding.specs.Minis.{widthOf, Turn, turn-start, wanted-here, body-ends, turn-next, turn-end}
 use Rattle.decoding.proofs.selecting_blocks.select_block.Statement.{statement}
 use Rattle.decoding.proofs.selecting_blocks.select_block.Tie as tie
 

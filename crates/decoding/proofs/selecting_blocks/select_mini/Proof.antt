@@ -1,11 +1,10 @@
 -- `decoding::selecting_blocks::select_mini` meets its contract: a byte more each turn.
 use mathlib.Core.Path.{_≡_, refl}
-use Prim.Native.Nat.{ℕ, _+_, _-_, _/_, _%_, _≤_, min}
+use Prim.Native.Nat.{_+_, _-_, _%_, _≤_, min}
 use native.Mathlib.Omega.{arith}
 use lib.ListN.{length}
 use borrow.Author.Needs.{needs}
 use Rattle.compare.specs.Range.{ranged}
-use Rattle.octets.specs.declared.testing.Octet.{Octet}
 use Rattle.octets.specs.Steps.{packedStep}
 use Rattle.octets.specs.Passed.{Passed, passed-none}
 use Rattle.octets.specs.Written.{selects, selects-none}

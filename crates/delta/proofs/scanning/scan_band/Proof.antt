@@ -1,6 +1,6 @@
 -- `delta::scanning::scan_band` meets its contract: room and page first, then the band's bitmap and its count.
 use mathlib.Core.Path.{_≡_, sym, _∙_}
-use Prim.Native.Nat.{ℕ, _≤_}
+use Prim.Native.Nat.{_≤_}
 use lib.ListN.{length}
 use borrow.Author.Needs.{needs}
 use Rattle.rules.specs.Bits.{ceil}

@@ -1,5 +1,5 @@
 -- `dictionary::judging::column_fault` meets its contract: the faults in their order.
-use mathlib.Core.Path.{_≡_, sym, _∙_}
+use mathlib.Core.Path.{sym, _∙_}
 use native.Mathlib.Omega.{arith}
 use borrow.Author.Needs.{needs}
 use Rattle.rules.specs.Dictionary.{indexFault, columnFault}

@@ -1,8 +1,4 @@
 -- `dictionary::judging::dictionary_fault` meets its contract: the length first, then the values' order.
-use mathlib.Core.Path.{_≡_, sym, _∙_}
-use mathlib.Core.Bool.{Bool}
-use Prim.Native.Nat.{_%_}
-use lib.ListN.{length}
 use borrow.Author.Needs.{needs}
 use borrow.Author.Tests.{eq-eqb, ne-eqb, lt-ltb, le-ltb}
 use Rattle.rules.specs.Dictionary.{dictionaryFault}

@@ -1,11 +1,11 @@
 -- `dictionary::scanning::scan_band` meets its contract: the column is judged first; then an index is selected where its value is.
-use mathlib.Core.Path.{_≡_, sym, ap, _∙_}
+use mathlib.Core.Path.{sym, ap, _∙_}
 use Prim.Native.Nat.{ℕ, _≤_}
 use lib.ListN.{length}
 use borrow.Author.Needs.{needs}
 use Rattle.rules.specs.Bits.{ceil}
 use Rattle.rules.specs.Answer.{scanned}
-use Rattle.rules.specs.Dictionary.{value, indexAt, columnFault}
+use Rattle.rules.specs.Dictionary.{value, indexAt}
 use Rattle.answers.specs.Laws.{then-zero, has-room, refused-is}
 use Rattle.bitmaps.specs.Scans.{scanned-ext}
 use Rattle.compare.specs.Band.{banded}

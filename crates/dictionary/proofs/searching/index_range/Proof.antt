@@ -1,5 +1,5 @@
 -- `dictionary::searching::index_range` meets its contract: the band's ends are read back from their bits, and no place is past 16,384.
-use mathlib.Core.Path.{_≡_, _∙_}
+use mathlib.Core.Path.{_∙_}
 use mathlib.Core.Bool.{true}
 use native.Mathlib.Omega.{arith}
 use borrow.Author.Needs.{needs}

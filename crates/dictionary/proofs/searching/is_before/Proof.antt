@@ -1,5 +1,5 @@
 -- `dictionary::searching::is_before` meets its contract: both numbers are read back from their bits.
-use mathlib.Core.Path.{_≡_, _∙_}
+use mathlib.Core.Path.{_≡_}
 use native.Mathlib.Omega.{arith}
 use lib.IntN.{ℤ}
 use mir.Syntax.{w32, w64}

@@ -1,6 +1,6 @@
 -- `horizontal::scanning::scan_band` meets its contract: room and page first, then the band's bitmap and its count.
 use mathlib.Core.Path.{_≡_, sym, ap, _∙_}
-use Prim.Native.Nat.{ℕ, _≤_}
+use Prim.Native.Nat.{_≤_}
 use native.Mathlib.Omega.{arith}
 use lib.ListN.{length}
 use borrow.Author.Needs.{needs}

@@ -1,9 +1,7 @@
 -- `indexes::large::in_windows` meets its contract: each test is one of those listed.
-use mathlib.Core.Path.{_≡_}
 use Prim.Native.Nat.{ℕ, _*_, _/_, _≤_}
 use native.Mathlib.Nat.{mul-le-mul}
 use native.Mathlib.Omega.{arith}
-use borrow.Author.Needs.{needs}
 use borrow.Author.Tests.{lt-ltb, le-ltb, lt-leb, le-leb, eq-eqb, ne-eqb}
 use Rattle.indexes.proofs.large.in_windows.Statement.{statement}
 use Rattle.indexes.proofs.large.in_windows.Tie as tie

@@ -1,5 +1,5 @@
 -- `indexes::large::some_marked` meets its contract: those too large are the entries outside the range below the limit, and some are if one or more are counted.
-use mathlib.Core.Path.{_≡_, ap, _∙_}
+use mathlib.Core.Path.{ap, _∙_}
 use mathlib.Core.Bool.{true}
 use Prim.Native.Nat.{ℕ, _-_, _*_, _≤_}
 use native.Mathlib.Nat.{mul-le-mul}
@@ -10,7 +10,7 @@ use borrow.Author.Needs.{needs}
 use Rattle.rules.specs.Bits.{ceil, put}
 use Rattle.rules.specs.declared.Answer.{Answer}
 use Rattle.bitmaps.specs.Counts.{countOnes}
-use Rattle.compare.specs.Range.{ranged, rangeTo}
+use Rattle.compare.specs.Range.{ranged}
 use Rattle.compare.specs.Ranges.{to-whole}
 use Rattle.compare.specs.declared.ranges.Range.{Range}
 use Rattle.kernels.specs.Selected.{selected}

@@ -1,5 +1,5 @@
 -- `indexes::pages::page_fault` meets its contract: the width byte first, and then the stream behind it, whose indexes are looked at where one can be too large.
-use mathlib.Core.Path.{_≡_, sym, ap, _∙_}
+use mathlib.Core.Path.{sym, ap, _∙_}
 use mathlib.Core.List.{List}
 use Prim.Native.Nat.{ℕ, _^_, _≤_, _<_}
 use native.Mathlib.Omega.{arith}

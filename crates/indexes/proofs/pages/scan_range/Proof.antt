@@ -1,5 +1,5 @@
 -- `indexes::pages::scan_range` meets its contract: a page without a fault has its width byte, and the stream behind it is good.
-use mathlib.Core.Path.{_≡_, refl, ap, _∙_}
+use mathlib.Core.Path.{refl, ap, _∙_}
 use mathlib.Core.List.{List}
 use Prim.Native.Nat.{ℕ}
 use native.Mathlib.Omega.{arith}

@@ -1,5 +1,5 @@
 -- `kernels::twos::apart` meets its contract: what stands above the first number is there twice.
-use Prim.Native.Nat.{ℕ, _*_, _%_, _^_, _<_}
+use Prim.Native.Nat.{_*_, _%_, _<_}
 use native.Mathlib.Nat.{mod-lt, mod-le}
 use native.Mathlib.Omega.{arith}
 use lib.Pow.{pow-pos, pow-mono}

@@ -1,5 +1,5 @@
 -- `lanes::unpacking::unpack_group` meets its contract: each turn adds eight planes' digits to every entry, the first turn those that are left over of eights.
-use mathlib.Core.Path.{_≡_, refl, sym, ap, _∙_}
+use mathlib.Core.Path.{_≡_, sym, ap, _∙_}
 use mathlib.Core.List.{List}
 use Prim.Native.Nat.{ℕ, _+_, _-_, _%_, _≤_, _<_}
 use native.Mathlib.Omega.{arith}

@@ -1,10 +1,10 @@
 -- `octets::placing::place_eight` meets its contract: both ways give what the contract says.
 use mathlib.Core.Path.{_≡_}
-use Prim.Native.Nat.{ℕ, _+_}
+use Prim.Native.Nat.{_+_}
 use native.Mathlib.Omega.{arith}
 use borrow.Author.Needs.{needs}
 use Rattle.octets.specs.Steps.{packedStep, stepFrom, step-from, step-place}
-use Rattle.octets.specs.Passed.{Passed, passed-same}
+use Rattle.octets.specs.Passed.{passed-same}
 use Rattle.octets.specs.Written.{places, places-none, places-more}
 use Rattle.octets.proofs.placing.place_eight.Statement.{statement}
 use Rattle.octets.proofs.placing.place_eight.Tie as tie

@@ -1,5 +1,5 @@
 -- `packing::judging::entries_fault` meets its contract: the entries are judged before the room.
-use mathlib.Core.Path.{_≡_, sym, ap, _∙_}
+use mathlib.Core.Path.{sym, ap, _∙_}
 use native.Mathlib.Omega.{arith}
 use borrow.Author.Needs.{needs}
 use Rattle.rules.specs.Answer.{faulty, largeFault}

@@ -1,5 +1,5 @@
 -- `readers::dictionary_columns::place` meets its contract: a column without a fault has its width byte, and the stream behind it is good.
-use mathlib.Core.Path.{_≡_, ap, _∙_}
+use mathlib.Core.Path.{ap, _∙_}
 use mathlib.Core.List.{List}
 use Prim.Native.Nat.{ℕ}
 use native.Mathlib.Omega.{arith}

@@ -1,6 +1,6 @@
 -- `readers::horizontal_pages::unpack` meets its contract: the faults in their order, then the page's entries.
 use mathlib.Core.Path.{_≡_, sym, ap, _∙_}
-use Prim.Native.Nat.{ℕ, _≤_}
+use Prim.Native.Nat.{_≤_}
 use native.Mathlib.Omega.{arith}
 use lib.ListN.{length}
 use borrow.Author.Needs.{needs}

@@ -1,7 +1,7 @@
 -- `readers::looking_up::look_up_runs` meets its contract. The loop's invariant: going on from here leaves what the pass leaves.
 -- Each run has an entry, so fewer are left with each turn.
-use mathlib.Core.Path.{_≡_, refl, sym, ap, _∙_}
-use Prim.Native.Nat.{ℕ, _+_, _-_, _*_, _≤_, min}
+use mathlib.Core.Path.{_≡_, refl, sym, _∙_}
+use Prim.Native.Nat.{_+_, _-_, _≤_}
 use native.Mathlib.Omega.{arith}
 use lib.ListN.{length}
 use borrow.Author.Needs.{needs}

@@ -1,10 +1,8 @@
 -- `readers::looking_up::place_body` meets its contract. The loop's invariant: the values of i indexes are in place, and the next begins at byte `from`.
 use mathlib.Core.Path.{_≡_, ap, _∙_}
-use mathlib.Core.List.{List}
 use Prim.Native.Nat.{ℕ, _+_, _-_, _*_, _≤_}
 use native.Mathlib.Nat.{add-mul, zero-mul, mul-le-mul-right}
 use native.Mathlib.Omega.{arith}
-use lib.IntN.{ℤ}
 use lib.ListN.{length}
 use borrow.Author.Needs.{needs}
 use Rattle.rules.specs.Bits.{field, put, tabulate}

@@ -1,9 +1,9 @@
 -- `readers::looking_up::place_part` meets its contract: the indexes in front of the local list are the page's from byte `from` on.
-use mathlib.Core.Path.{_≡_, ap, _∙_}
+use mathlib.Core.Path.{ap, _∙_}
 use mathlib.Core.List.{List}
 use Prim.Native.Nat.{ℕ, _-_}
 use native.Mathlib.Omega.{arith}
-use lib.ListN.{length, getD, take, drop}
+use lib.ListN.{length, getD}
 use borrow.Author.Needs.{needs}
 use Rattle.rules.specs.Bits.{put, tabulate}
 use Rattle.rules.specs.Dictionary.{value}

@@ -1,5 +1,5 @@
 -- `readers::looking_up::place_same` meets its contract: the part that is lent begins at place p.
-use mathlib.Core.Path.{_≡_, ap, _∙_}
+use mathlib.Core.Path.{ap, _∙_}
 use lib.IntN.{ℤ}
 use borrow.Author.Needs.{needs}
 use mir.Syntax.{w32}

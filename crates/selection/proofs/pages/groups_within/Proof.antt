@@ -1,5 +1,4 @@
 -- `selection::pages::groups_within` meets its contract: all q groups, or a quotient's, which end eight bytes before the end.
-use Prim.Native.Nat.{_*_, _≤_}
 use native.Mathlib.Nat.{mul-le-mul}
 use native.Mathlib.Omega.{arith}
 use borrow.Author.Needs.{needs}

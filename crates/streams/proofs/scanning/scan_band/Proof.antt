@@ -1,9 +1,9 @@
 -- `streams::scanning::scan_band` meets its contract: room and stream first, then the band's bitmap and its count.
 use mathlib.Core.Path.{_≡_, sym, ap, _∙_}
-use Prim.Native.Nat.{ℕ, _≤_}
+use Prim.Native.Nat.{_≤_}
 use lib.ListN.{length}
 use borrow.Author.Needs.{needs}
-use Rattle.rules.specs.Bits.{ceil, put}
+use Rattle.rules.specs.Bits.{ceil}
 use Rattle.rules.specs.Runs.{read, streamFault}
 use Rattle.answers.specs.Laws.{then-zero, has-room, refused-is}
 use Rattle.bitmaps.specs.Scans.{scanned-is}

@@ -1,7 +1,6 @@
 -- `vertical::judging::page_fault` meets its contract: each test is one of the listed faults.
 use mathlib.Core.Path.{_≡_, sym, ap, _∙_}
-use mathlib.Core.Bool.{Bool, true, false}
-use Prim.Native.Nat.{ℕ, _+_, _*_, _/_, _%_, _^_, _<_, _≤_}
+use Prim.Native.Nat.{ℕ, _+_, _*_, _/_, _%_, _^_, _≤_}
 use native.Mathlib.Omega.{arith}
 use lib.Dec.{ltb}
 use borrow.Author.Needs.{needs}
@@ -9,7 +8,7 @@ use borrow.Author.Tests.{lt-ltb, le-ltb}
 use Rattle.rules.specs.Answer.{_then_}
 use Rattle.rules.specs.Vertical.{pageFault, unused}
 use Rattle.words.specs.Entries.{place-within}
-use Rattle.vertical.specs.Unused.{orTo, unused-rest, unused-none}
+use Rattle.vertical.specs.Unused.{unused-rest, unused-none}
 use Rattle.vertical.specs.Columns.{words-le}
 use Rattle.vertical.proofs.judging.page_fault.Statement.{statement}
 use Rattle.vertical.proofs.judging.page_fault.Tie as tie

@@ -1,5 +1,5 @@
 -- `vertical::scanning::group_bits` meets its contract: the group's planes are lent on, and its lanes turned where the band is.
-use mathlib.Core.Path.{_≡_, sym, ap, _∙_}
+use mathlib.Core.Path.{_≡_, ap, _∙_}
 use Prim.Native.Nat.{ℕ, _+_, _-_, _*_}
 use native.Mathlib.Omega.{arith}
 use lib.IntN.{pos}

@@ -1,9 +1,9 @@
 -- `vertical::scanning::scan_band` meets its contract: room and column first, then the band's bitmap and its count.
-use mathlib.Core.Path.{_≡_, sym, ap, _∙_}
-use Prim.Native.Nat.{ℕ, _≤_}
+use mathlib.Core.Path.{_≡_, sym, _∙_}
+use Prim.Native.Nat.{_≤_}
 use lib.ListN.{length}
 use borrow.Author.Needs.{needs}
-use Rattle.rules.specs.Bits.{ceil, put}
+use Rattle.rules.specs.Bits.{ceil}
 use Rattle.rules.specs.Vertical.{pageWords}
 use Rattle.answers.specs.Laws.{then-zero, has-room, refused-is}
 use Rattle.bitmaps.specs.Scans.{scanned-is}

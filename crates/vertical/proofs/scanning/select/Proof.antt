@@ -1,5 +1,5 @@
 -- `vertical::scanning::select` meets its contract: the groups that n fills, then the lanes of the last one that n reaches.
-use mathlib.Core.Path.{_≡_, sym, ap, _∙_}
+use mathlib.Core.Path.{_≡_, ap, _∙_}
 use mathlib.Core.List.{List}
 use Prim.Native.Nat.{ℕ, _+_, _*_, _/_, _%_, _^_}
 use native.Mathlib.Nat.{mul-le-mul-right}

@@ -1,6 +1,6 @@
 -- `walks::marking_runs::mark_body` meets its contract: the part's entries are the page's from byte `start` on.
 use mathlib.Core.Path.{ap, _∙_}
-use Prim.Native.Nat.{ℕ, _+_, _-_, _*_, _/_, _≤_}
+use Prim.Native.Nat.{ℕ, _-_, _*_, _≤_}
 use native.Mathlib.Nat.{mul-le-mul}
 use native.Mathlib.Omega.{arith}
 use Rattle.words.specs.Appended.{appended}

@@ -1,10 +1,9 @@
 -- `words::entries::entry_any` meets its contract: a window of eight bytes holds the bits, which begin in its first byte.
-use Prim.Native.Nat.{ℕ, _*_, _/_, _%_, _^_, _<_}
-use mathlib.Core.Path.{_≡_, sym, ap, _∙_}
+use Prim.Native.Nat.{ℕ, _*_, _/_, _%_, _^_}
+use mathlib.Core.Path.{_≡_, ap, _∙_}
 use native.Mathlib.Nat.{lt-of-lt-of-le}
 use lib.Pow.{pow-pos, pow-mono}
-use lib.ListN.{take, drop}
-use Rattle.rules.specs.Bits.{number, field}
+use Rattle.rules.specs.Bits.{field}
 use Rattle.words.specs.Bits.{one-shl}
 use Rattle.words.specs.Entries.{window}
 use Rattle.words.specs.Joined.{piece-lt}

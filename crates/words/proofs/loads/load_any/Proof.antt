@@ -1,7 +1,7 @@
 -- `words::loads::load_any` meets its contract: nothing past the end, a shorter tail, or eight bytes.
-use Prim.Native.Nat.{ℕ, _-_}
-use mathlib.Core.Path.{_≡_, refl, sym, ap, _∙_}
-use lib.ListN.{length, take, drop, length-drop}
+use Prim.Native.Nat.{_-_}
+use mathlib.Core.Path.{sym, ap, _∙_}
+use lib.ListN.{drop, length-drop}
 use lib.Seq.{take-all}
 use Rattle.rules.specs.Bits.{number}
 use Rattle.words.specs.Bytes.{number-end}

@@ -1,9 +1,8 @@
 -- `writers::vertical_columns::pack_one` meets its contract: the group's entries and its planes are lent on.
 use mathlib.Core.Path.{_≡_, ap, _∙_}
-use mathlib.Core.List.{List}
-use Prim.Native.Nat.{ℕ, _+_, _-_, _*_, min}
+use Prim.Native.Nat.{_+_, _-_, _*_}
 use native.Mathlib.Omega.{arith}
-use lib.ListN.{length, take, drop}
+use lib.ListN.{take, drop}
 use borrow.Author.Needs.{needs}
 use Rattle.rules.specs.Bits.{put, tabulate}
 use Rattle.rules.specs.Vertical.{plane}
