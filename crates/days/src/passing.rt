@@ -1,7 +1,8 @@
 // What is kept of the pages passed: how many seconds are selected, the first and the last, and the day's cells.
 ghost use mathlib.Core.Path.{_≡_};
+ghost use mathlib.Core.Bool.{true};
 ghost use Prim.Native.Nat.{_-_};
-ghost use Rattle.days.specs.Passed.{more, fresh, losing, reading, selecting, passing, passed, chosenBy};
+ghost use Rattle.days.specs.Passed.{more, fresh, losing, reading, selecting, passing, passed, inCell, counting, counts, chosenBy};
 use bitmaps::is_set;
 use lines::Line;
 
@@ -72,7 +73,9 @@ fn one_more(x: usize) -> usize
 }
 
 // One second more in its cell; past the day there are no cells.
-fn counted(cells: &mut [u32; CELLS], second: usize) {
+fn counted(cells: &mut [u32; CELLS], second: usize)
+    ensures { λ _. ⌜ now (cells .exit) ≡ inCell second (now (cells .entry)) ⌝ }
+{
     let c = second / CELL;
     if CELLS <= c {
         return;
@@ -91,6 +94,8 @@ fn second_passed(
     answered: &mut [u32; CELLS],
 ) -> Day
     ensures { λ r. ⌜ r ≡ passing «is_selected» second day ⌝ }
+    ensures { λ _. ⌜ now (selected .exit) ≡ counting «is_selected» second (now (selected .entry)) ⌝ }
+    ensures { λ _. ⌜ now (answered .exit) ≡ inCell second (now (answered .entry)) ⌝ }
 {
     counted(answered, second);
     let passed = day.reads();
@@ -114,6 +119,8 @@ pub fn page_passed(
     answered: &mut [u32; CELLS],
 ) -> Day
     ensures { λ r. ⌜ r ≡ passed (chosenBy (now (bitmap .entry))) start (end - start) before ⌝ }
+    ensures { λ _. ⌜ now (selected .exit) ≡ counts (chosenBy (now (bitmap .entry))) start (end - start) (now (selected .entry)) ⌝ }
+    ensures { λ _. ⌜ now (answered .exit) ≡ counts (λ _. true) start (end - start) (now (answered .entry)) ⌝ }
 {
     let mut day = before;
     let mut second = start;

@@ -17,7 +17,7 @@ returns : tie.Need-returns
 returns c =
     let a = c .before .before .before .before .args in
     let no : a .is-selected ≡ false = not-true (a .is-selected) (c .if1 .taken) in
-    rw no (c .before .reads .ensures)
+    (rw no (c .before .reads .ensures), (rw no, c .before .before .counted .ensures))
 
 counted-requires-2 : tie.Need-counted-requires-2
 counted-requires-2 c κs = search needs
@@ -39,7 +39,7 @@ returns-2 c =
     let e = c .before .before .before .before in
     let a = e .before .before .before .before .args in
     let yes : a .is-selected ≡ true = not-false (a .is-selected) (e .if1 .left) in
-    rw yes (c .selects .ensures ∙ ap (selecting (a .second)) (e .before .reads .ensures))
+    (rw yes (c .selects .ensures ∙ ap (selecting (a .second)) (e .before .reads .ensures)), (rw yes (c .before .before .counted2 .ensures), e .before .before .counted .ensures))
 
 pub second-passed-spec : {M : Type 1} → statement M
 second-passed-spec =
