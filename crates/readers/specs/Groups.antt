@@ -1,4 +1,4 @@
--- A column's entries, one group more, by the entries that n reaches.
+-- The entries of a column of bit planes, one group more, by the entries that n reaches.
 use mathlib.Core.Path.{_≡_, ap, _∙_}
 use mathlib.Core.List.{List}
 use Prim.Native.Nat.{ℕ, _+_, _-_, _*_, _≤_, _<_, min}

@@ -1,4 +1,4 @@
-// The entries of a page, into places.
+// The entries of a bare horizontal page, into places.
 ghost use mathlib.Core.Path.{_≡_};
 ghost use Rattle.rules.specs.Bits.Order.{lowFirst};
 ghost use Rattle.rules.specs.Answer.Outcome.{outcome};

@@ -1,4 +1,4 @@
-// The entries of a stream, into places.
+// The entries of a run stream, into places.
 ghost use mathlib.Core.Path.{_≡_};
 ghost use Rattle.rules.specs.Answer.Outcome.{outcome};
 ghost use Rattle.rules.specs.Runs as Runs;

@@ -1,4 +1,4 @@
-// The entries of a column, into places.
+// The entries of a column of bit planes, into places.
 ghost use mathlib.Core.Path.{_≡_};
 ghost use Prim.Native.Nat.{_+_, _-_, _*_, _≤_, _<_, min};
 ghost use lib.ListN.{length};

@@ -1,4 +1,4 @@
-// Plain runs, as most are: a header of one byte, and four bytes or more behind it. They are read here, in so few steps that a loop over runs holds a copy; any other run is left to `reading`.
+// Plain runs, as short ones are: a header of one byte, and four bytes or more behind it. They are read here, in so few steps that a loop over runs holds a copy; any other run is left to `reading`.
 ghost use mathlib.Core.Path.{_≡_};
 ghost use Prim.Native.Nat.{_+_, _≤_, _<_};
 ghost use lib.ListN.{length, getD};

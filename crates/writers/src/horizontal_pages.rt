@@ -1,4 +1,4 @@
-// A list of entries, into a page.
+// A list of entries, into a bare horizontal page.
 ghost use mathlib.Core.Path.{_≡_};
 ghost use Rattle.rules.specs.Bits.Order.{lowFirst};
 ghost use Rattle.rules.specs.Answer.Outcome.{outcome};

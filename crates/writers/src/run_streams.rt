@@ -1,4 +1,4 @@
-// A list of entries, into a stream.
+// A list of entries, into a run stream.
 ghost use mathlib.Core.Path.{_≡_};
 ghost use Rattle.rules.specs.Answer.Outcome.{outcome};
 ghost use Rattle.rules.specs.RunWriter as RunWriter;
