@@ -3,7 +3,7 @@ ghost use mathlib.Core.Path.{_≡_};
 ghost use Rattle.rules.specs.Answer.{accepted, refusal, roomFault};
 use rules::Answer;
 
-pub fn done(number: u32) -> Answer
+pub fn accepted(number: u32) -> Answer
     ensures { λ r. ⌜ r ≡ accepted number ⌝ }
 {
     Answer {

@@ -1,4 +1,4 @@
 pub mod Counts
 pub mod Bitmaps
 pub mod Trimmed
-pub mod Scans
+pub mod ScanEnds

@@ -8,4 +8,4 @@ pub mod Ranges
 pub mod SignedCuts
 pub mod SignedRanges
 pub mod Meanings
-pub mod Faults
+pub mod OperatorFault

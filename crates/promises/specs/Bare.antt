@@ -9,7 +9,7 @@ use Rattle.rules.specs.Answer.Outcome.{outcome}
 use Rattle.rules.specs.declared.Answer.{Answer}
 use Rattle.words.specs.Joined.{Small}
 use Rattle.words.specs.Tabulated.{length-tabulate}
-use Rattle.promises.specs.Faults.{pack-good}
+use Rattle.promises.specs.NoFault.{pack-good}
 use Rattle.promises.specs.Layouts.{Layout, unpacks, unpack-accepted}
 use Rattle.promises.specs.Writers.{Writer, packs}
 use Rattle.promises.specs.Writes.{write-promise, written-accepted}

@@ -15,9 +15,9 @@ use Rattle.rules.specs.Answer.Outcome.{outcome}
 use Rattle.rules.specs.Delta as Delta
 use Rattle.rules.specs.DeltaWriter as DeltaWriter
 use Rattle.rules.specs.declared.Answer.{Answer}
-use Rattle.encoding.specs.Deltas.{AllWithin, no-wide-fault}
-use Rattle.encoding.specs.Sizes.{page-enough}
-use Rattle.encoding.specs.ReadBack.{fault-back, entries-back}
+use Rattle.delta_write.specs.Deltas.{AllWithin, no-wide-fault}
+use Rattle.delta_write.specs.Sizes.{page-enough}
+use Rattle.delta_write.specs.ReadBack.{fault-back, entries-back}
 use Rattle.promises.specs.Layouts.{Layout, scans, unpacks}
 use Rattle.promises.specs.Writers.{Writer, packs, pack-accepted, packed-unpacks, packed-scans}
 use Rattle.promises.specs.Signed.{signed}

@@ -12,7 +12,7 @@ use Rattle.rules.specs.Answer.Outcome.{outcome}
 use Rattle.rules.specs.Dictionary as Dictionary
 use Rattle.rules.specs.Dictionary.{value, indexAt}
 use Rattle.rules.specs.declared.Answer.{Answer}
-use Rattle.promises.specs.Faults.{_and_}
+use Rattle.promises.specs.NoFault.{_and_}
 use Rattle.promises.specs.Layouts as Layouts
 use Rattle.promises.specs.Layouts.{Layout, scans, unpacks}
 use Rattle.promises.specs.Signed.{signed}

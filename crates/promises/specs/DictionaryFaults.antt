@@ -17,9 +17,9 @@ use Rattle.rules.specs.Dictionary.{value, count, unordered, dictionaryFault, in
 use Rattle.words.specs.Tests as Tests
 use Rattle.words.specs.SomeBelow.{none-below, below-none}
 use Rattle.signed.specs.Order.{not-ltZ, not-leZ}
-use Rattle.runs.specs.Exact as Runs
-use Rattle.promises.specs.Faults.{_and_, neither, no-fault}
-use Rattle.promises.specs.Streams.{entryOf}
+use Rattle.runs_read.specs.Exact as Runs
+use Rattle.promises.specs.NoFault.{_and_, neither, no-fault}
+use Rattle.promises.specs.Runs.{entryOf}
 
 -- 4-byte numbers, 65,536 bytes at most, strictly ascending
 pub record Ascending (dict : List ℕ) : Type 0 where

@@ -7,9 +7,9 @@ use lib.ListN.{length}
 use Rattle.rules.specs.Bits.{entry}
 use Rattle.rules.specs.Bits.Order.{lowFirst}
 use Rattle.rules.specs.Horizontal as Horizontal
-use Rattle.packing.specs.Large.{small-of, large-of}
-use Rattle.packing.specs.Packed.{length-packed}
-use Rattle.packing.specs.RoundTrip.{entries-small, unpack-packed, unused-packed, pack-unpacked}
+use Rattle.packed_entries.specs.NoneTooLarge.{small-of, large-of}
+use Rattle.packed_entries.specs.Packed.{length-packed}
+use Rattle.packed_entries.specs.RoundTrip.{entries-small, unpack-packed, unused-packed, pack-unpacked}
 use Rattle.promises.specs.Layouts.{Layout, scans, unpacks}
 use Rattle.promises.specs.Writers.{Writer, packs}
 use Rattle.promises.specs.Unsigned.{unsigned, unsigned-writer}

@@ -11,7 +11,7 @@ use borrow.Author.Tests.{ltb-true, ltb-false}
 use Rattle.rules.specs.Bits.{ceil, bitAt, piece, field}
 use Rattle.rules.specs.Bits.Order.{lowFirst}
 use Rattle.rules.specs.Horizontal.{pageBytes, unused, pageFault}
-use Rattle.promises.specs.Faults.{_and_, neither, not-below}
+use Rattle.promises.specs.NoFault.{_and_, neither, not-below}
 
 pub record Exact (page : List ℕ) (w n : ℕ) : Type 0 where
   -- the input has exactly ceil(n × w / 8) bytes

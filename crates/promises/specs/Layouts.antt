@@ -10,7 +10,7 @@ use Rattle.rules.specs.Comparison.{holds}
 use Rattle.rules.specs.Answer.{_then_, operatorFault, roomFault, Outcome, scanned, written}
 use Rattle.rules.specs.Answer.Outcome.{outcome}
 use Rattle.rules.specs.declared.Answer.{Answer}
-use Rattle.promises.specs.Faults.{_and_, scan-good, unpack-good}
+use Rattle.promises.specs.NoFault.{_and_, scan-good, unpack-good}
 use Rattle.promises.specs.Promise.{Promise, accepted-where}
 use Rattle.promises.specs.Scans.{Selects, scan-promise}
 use Rattle.promises.specs.Writes.{Fills, fill-promise}

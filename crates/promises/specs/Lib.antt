@@ -4,7 +4,7 @@ pub mod Equal
 pub mod Fronts
 pub mod Scans
 pub mod Writes
-pub mod Faults
+pub mod NoFault
 pub mod Layouts
 pub mod Writers
 pub mod Bare
@@ -14,7 +14,7 @@ pub mod HorizontalFaults
 pub mod Horizontal
 pub mod VerticalFaults
 pub mod Vertical
-pub mod Streams
+pub mod Runs
 pub mod Delta
 pub mod DictionaryFaults
 pub mod Dictionary

@@ -11,8 +11,8 @@ use Rattle.rules.specs.Runs.Handed.{handed}
 use Rattle.rules.specs.declared.Run.{Run}
 use Rattle.rules.specs.declared.Run.the-variants.{Repeated, Packed, Refused}
 use Rattle.rules.specs.declared.RunAnswer.{RunAnswer}
-use Rattle.runs.specs.One.{one-packed, one-read}
-use Rattle.promises.specs.Faults.{_and_, limits-kept}
+use Rattle.runs_read.specs.One.{one-packed, one-read}
+use Rattle.promises.specs.NoFault.{_and_, limits-kept}
 use Rattle.promises.specs.RunThere.{RunThere, Tells, run-told}
 use Rattle.promises.specs.OneRunFaults.{runFault, oneFault, first-fault, one-good, other-one}
 

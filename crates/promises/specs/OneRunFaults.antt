@@ -17,7 +17,7 @@ use Rattle.rules.specs.declared.Number.the-variants.{Read, Ended, Beyond}
 use Rattle.rules.specs.declared.Run.{Run}
 use Rattle.rules.specs.declared.Run.the-variants.{Refused}
 use Rattle.words.specs.Tests.{either}
-use Rattle.promises.specs.Faults.{_and_, neither, no-fault, not-below, limits-kept}
+use Rattle.promises.specs.NoFault.{_and_, neither, no-fault, not-below, limits-kept}
 use Rattle.promises.specs.RunThere.{RunThere, run-exact}
 
 -- 0 for a run that was read

@@ -12,10 +12,10 @@ use Rattle.rules.specs.Grammar.{OneRun}
 use Rattle.rules.specs.declared.Run.{Run}
 use Rattle.rules.specs.declared.Run.the-variants.{Repeated, Packed, Refused}
 use Rattle.rules.specs.declared.RunAnswer.{RunAnswer}
-use Rattle.runs.specs.Turns.{never}
-use Rattle.runs.specs.Shown.{ran-packed}
-use Rattle.runs.specs.Sound.{StandsAs, one-sound}
-use Rattle.runs.specs.Complete.{one-complete}
+use Rattle.runs_read.specs.RunAfterRun.{never}
+use Rattle.runs_read.specs.RunRead.{ran-packed}
+use Rattle.runs_read.specs.Sound.{StandsAs, one-sound}
+use Rattle.runs_read.specs.Complete.{one-complete}
 
 -- bytes of the page from the place on are a run, where `left` entries are not yet covered; any may follow
 pub record RunThere (w left : ℕ) (page : List ℕ) (at : ℕ) : Type 0 where

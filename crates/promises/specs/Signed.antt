@@ -6,7 +6,7 @@ use Prim.Native.Nat.{ℕ, _≤_}
 use native.Mathlib.Omega.{arith}
 use lib.IntN.{ℤ}
 use Rattle.rules.specs.Answer.{countFault}
-use Rattle.promises.specs.Faults.{not-below}
+use Rattle.promises.specs.NoFault.{not-below}
 use Rattle.promises.specs.Layouts.{Layout}
 
 abbrev pub signed : {K : Type 0} (fault : List ℕ → K → ℕ → ℕ) (Exact : List ℕ → K → ℕ → Type 0)

@@ -8,7 +8,7 @@ use lib.ListN.{length}
 use Rattle.rules.specs.Bits.{tabulate}
 use Rattle.rules.specs.Answer.{limitFault, largeFault}
 use Rattle.words.specs.Joined.{Small}
-use Rattle.promises.specs.Faults.{_and_, limits-kept, entries-fit}
+use Rattle.promises.specs.NoFault.{_and_, limits-kept, entries-fit}
 use Rattle.promises.specs.Layouts.{Layout}
 use Rattle.promises.specs.Writers.{Writer}
 

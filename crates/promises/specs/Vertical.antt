@@ -5,8 +5,8 @@ use Prim.Native.Nat.{ℕ}
 use lib.IntN.{ℤ}
 use lib.ListN.{length}
 use Rattle.rules.specs.Vertical as Vertical
-use Rattle.packing.specs.Large.{small-of, large-of}
-use Rattle.lanes.specs.Columns.{length-packed, entries-small, unpack-packed, unused-packed, pack-unpacked}
+use Rattle.packed_entries.specs.NoneTooLarge.{small-of, large-of}
+use Rattle.vertical_turn.specs.ColumnThereAndBack.{length-packed, entries-small, unpack-packed, unused-packed, pack-unpacked}
 use Rattle.promises.specs.Layouts.{Layout, scans, unpacks}
 use Rattle.promises.specs.Writers.{Writer, packs}
 use Rattle.promises.specs.Unsigned.{unsigned, unsigned-writer}

@@ -11,8 +11,8 @@ use borrow.Author.Tests.{le-ltb}
 use Rattle.rules.specs.Bits.{ceil}
 use Rattle.rules.specs.Vertical.{pageWords, entry, unused, pageFault}
 use Rattle.words.specs.SomeBelow.{none-below}
-use Rattle.lanes.specs.Unused.{unused-zero}
-use Rattle.promises.specs.Faults.{_and_, neither, no-fault, not-below}
+use Rattle.vertical_turn.specs.NoLaneSet.{unused-zero}
+use Rattle.promises.specs.NoFault.{_and_, neither, no-fault, not-below}
 
 pub record Exact (words : List ℕ) (w n : ℕ) : Type 0 where
   -- exactly ceil(n/64) × w words

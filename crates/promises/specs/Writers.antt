@@ -11,9 +11,9 @@ use Rattle.rules.specs.Answer.{_then_, operatorFault, roomFault, Outcome, accep
 use Rattle.rules.specs.Answer.Outcome.{outcome}
 use Rattle.rules.specs.declared.Answer.{Answer}
 use Rattle.answers.specs.Laws.{then-none, then-last}
-use Rattle.bitmaps.specs.Scans.{scanned-ext}
+use Rattle.bitmaps.specs.ScanEnds.{scanned-ext}
 use Rattle.words.specs.Tabulated.{getD-tabulate}
-use Rattle.promises.specs.Faults.{_and_, unpack-good, pack-good}
+use Rattle.promises.specs.NoFault.{_and_, unpack-good, pack-good}
 use Rattle.promises.specs.Promise.{Promise, accepted-where}
 use Rattle.promises.specs.Layouts.{Layout, scans, unpacks}
 use Rattle.promises.specs.Writes.{Writes, write-promise, written-accepted}

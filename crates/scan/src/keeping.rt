@@ -1,5 +1,5 @@
 // The file that keeps the bitmap of all pages.
-use days::seconds::bitmap_bytes;
+use scan_day::seconds::bitmap_bytes;
 
 // A file made anew, or below 0 where it cannot be, which is said.
 pub fn made(at: usize) -> i32 {

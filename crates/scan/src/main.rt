@@ -2,11 +2,11 @@
 mod column;
 mod keeping;
 
-use asking::names::NO_LAYOUT;
-use asking::names::is_help;
-use asking::names::layout;
-use telling::Sentence;
-use telling::tell;
+use scan_says::Sentence;
+use scan_says::tell;
+use scan_words::names::NO_LAYOUT;
+use scan_words::names::is_help;
+use scan_words::names::layout;
 
 fn main() {
     let mut word = io::buffer();

@@ -1,8 +1,8 @@
 // Published vectors, run through the proved functions and compared: document 01's examples that are not in the proved table, and Parquet's own.
-mod delta_pages;
-mod dictionary_columns;
-mod horizontal_pages;
-mod run_streams;
+mod delta;
+mod dictionary;
+mod horizontal;
+mod runs;
 
 use lines::Line;
 

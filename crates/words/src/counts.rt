@@ -3,7 +3,7 @@ ghost use mathlib.Core.Path.{_≡_};
 ghost use Prim.Native.Nat.{_-_, min};
 
 // How many are still left where some are taken; where these are more than there were, none.
-pub fn still_left(left: usize, taken: usize) -> usize
+pub fn left_after(left: usize, taken: usize) -> usize
     ensures { λ r. ⌜ r ≡ left - taken ⌝ }
 {
     if left < taken {
@@ -13,7 +13,7 @@ pub fn still_left(left: usize, taken: usize) -> usize
 }
 
 // How many of some are among those that are left.
-pub fn below(some: usize, left: usize) -> usize
+pub fn min(some: usize, left: usize) -> usize
     ensures { λ r. ⌜ r ≡ min some left ⌝ }
 {
     if left < some {

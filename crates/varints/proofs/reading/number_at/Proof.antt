@@ -6,7 +6,7 @@ use lib.ListN.{drop, getD}
 use borrow.Author.Tests.{lt-ltb, le-ltb}
 use borrow.Author.Needs.{needs}
 use Rattle.rules.specs.Varint.{uleb, numberAt}
-use Rattle.varints.specs.Turns.{scaled, scaled-one, scaled-below, ended, step, final, digit, room}
+use Rattle.varints.specs.ByteByByte.{scaled, scaled-one, scaled-below, ended, step, final, digit, room}
 use Rattle.varints.proofs.reading.number_at.Statement.{statement}
 use Rattle.varints.proofs.reading.number_at.Tie as tie
 

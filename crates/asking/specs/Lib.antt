@@ -1,4 +1,0 @@
-pub mod Names
-pub mod Found
-pub mod Numbers
-pub mod Kept

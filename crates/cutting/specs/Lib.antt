@@ -1,5 +1,0 @@
-pub mod Cuts
-pub mod Places
-pub mod Sizes
-pub mod Turns
-pub mod ReadBack

@@ -1,4 +1,0 @@
-// The writer of run streams: a list of entries cut into runs, and the bytes of each. Their laws stand in specs/.
-pub mod laying;
-pub mod sizes;
-pub mod stretches;

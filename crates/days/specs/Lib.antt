@@ -1,4 +1,0 @@
-pub mod Clock
-pub mod Passed
-pub mod Picture
-pub mod Sentence

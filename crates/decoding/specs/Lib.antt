@@ -1,3 +1,0 @@
-pub mod Minis
-pub mod Pages
-pub mod Ranges

@@ -1,0 +1,3 @@
+pub mod MiniblockDeltas
+pub mod PageEntries
+pub mod EntriesInRange

@@ -1,0 +1,94 @@
+-- `delta_octets::placing::place_whole` meets its contract: an entry more each turn.
+use mathlib.Core.Path.{_≡_, refl, _∙_}
+use Prim.Native.Nat.{_-_, _*_, _≤_}
+use native.Mathlib.Nat.{mul-le-mul-right}
+use native.Mathlib.Omega.{arith}
+use lib.ListN.{length}
+use mir.Syntax.{w32}
+use mir.ValLaws.{toZ-ofZ}
+use borrow.Author.Needs.{needs}
+use Rattle.delta_octets.specs.Steps.{stepFrom}
+use Rattle.delta_octets.specs.EntryByEntry.{Passed, passed-none}
+use Rattle.delta_octets.specs.TwoWritings.{places, places-none, places-next}
+use Rattle.delta_octets.proofs.placing.place_whole.Statement.{statement}
+use Rattle.delta_octets.proofs.placing.place_whole.Tie as tie
+
+abbrev Inv-loop : tie.InvT-loop
+Inv-loop body at w least from entries₀ i x₀ u₀ entries x u =
+    (u ≤ 8) × (length entries ≡ length entries₀) × Passed (places 32) 32 from (stepFrom least body at w) i entries₀ u x entries
+
+abbrev μ-loop : tie.MeasureT-loop
+μ-loop body at w least from entries₀ i x₀ u₀ entries x u = 8 - u
+
+loop-holds : tie.Need-loop-holds Inv-loop μ-loop
+loop-holds c =
+    let a = c .before .args in
+    (omega arith, refl, passed-none (places 32) 32 (a .from) (stepFrom (a .least) (a .body .now) (a .at) (a .w)) (a .i) (a .entries .now) (places-none 32 (a .i) (a .entries .now)))
+
+signed32-requires : tie.Need-signed32-requires Inv-loop μ-loop
+signed32-requires c κs = search needs
+
+add-entry : tie.Need-add-entry Inv-loop μ-loop
+add-entry c = search needs
+
+mul-entry : tie.Need-mul-entry Inv-loop μ-loop
+mul-entry c = search needs
+
+slice-set-from-entry : tie.Need-slice-set-from-entry Inv-loop μ-loop
+slice-set-from-entry c = search needs
+
+-- the entry's window ends within the body
+low : (c : tie.After-signed32 Inv-loop μ-loop) → let l = c .before .before .loop in let a = c .before .before .before .before .args in l .u * a .w ≤ 7 * a .w
+low c = mul-le-mul-right _ (omega arith)
+
+mul-stepped-in : tie.Need-mul-stepped-in Inv-loop μ-loop
+mul-stepped-in c = omega (arith, low c)
+
+stepped-in-requires : tie.Need-stepped-in-requires Inv-loop μ-loop
+stepped-in-requires c κs = omega (arith, low c)
+
+add-u : tie.Need-add-u Inv-loop μ-loop
+add-u c = search needs
+
+loop-less : tie.Need-loop-less Inv-loop μ-loop
+loop-less c = search needs
+
+loop-again : tie.Need-loop-again Inv-loop μ-loop
+loop-again c =
+    let l = c .before .before .before .loop in
+    let a = c .before .before .before .before .before .args in
+    let z = c .before .signed32 in (
+      omega arith,
+      search needs,
+      places-next 32 (a .from) (stepFrom (a .least) (a .body .now) (a .at) (a .w)) (a .i) (a .entries .now) (l .u) (l .x) (c .stepped-in .result) (l .entries) _ (omega arith) (l .inv .2)
+          (toZ-ofZ w32 (z .result) (record { sfits = z .ok }) ∙ z .ensures) (c .stepped-in .ensures),
+    )
+
+same-length : tie.Need-same-length Inv-loop μ-loop
+same-length c = search needs
+
+returns : tie.Need-returns Inv-loop μ-loop
+returns c =
+    let l = c .before .loop in
+    let all : l .u ≡ 8 = omega arith in
+    let p = rw all at (l .inv .2) in
+    (p .entry, p .wrote)
+
+pub place-whole-spec : {M : Type 1} → statement M
+place-whole-spec =
+    tie.close
+    (tie.spec
+    Inv-loop
+    μ-loop
+    loop-holds
+    signed32-requires
+    add-entry
+    mul-entry
+    slice-set-from-entry
+    mul-stepped-in
+    stepped-in-requires
+    add-u
+    loop-less
+    loop-again
+    same-length
+    returns)

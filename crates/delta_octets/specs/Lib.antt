@@ -1,0 +1,4 @@
+pub mod Steps
+pub mod EntryByEntry
+pub mod TwoWritings
+pub mod Octets

@@ -1,0 +1,54 @@
+-- `dictionary_indexes::large::some_packed` meets its contract: by windows where they hold the run, and else by marks.
+use mathlib.Core.Path.{_≡_, sym, ap, _∙_}
+use Prim.Native.Nat.{ℕ, _+_, _-_, _*_, _/_, _%_, _≤_, _<_}
+use native.Mathlib.Omega.{arith}
+use lib.Dec.{leb}
+use lib.ListN.{length}
+use borrow.Author.Needs.{needs}
+use Rattle.rules.specs.Bits.{field, someBelow}
+use Rattle.rules.specs.Bits.Order.{lowFirst}
+use Rattle.dictionary_indexes.specs.IndexWindows.{windows-hold}
+use Rattle.dictionary_indexes.proofs.large.some_packed.Statement.{statement}
+use Rattle.dictionary_indexes.proofs.large.some_packed.Tie as tie
+
+sub-in-windows : tie.Need-sub-in-windows
+sub-in-windows c = search needs
+
+in-windows-requires : tie.Need-in-windows-requires
+in-windows-requires c κs = search needs
+
+-- the run lies in windows
+held : (c : tie.Then1) → let a = c .before .before .before .before .args in
+    (0 < a .w) × (a .w ≤ 16) × (a .m % 8 ≡ 0) × (a .m / 8 * a .w + 8 ≤ length (a .page .now) - a .start)
+held c = windows-hold _ _ _ (sym (c .before .in-windows .ensures) ∙ c .if1 .taken)
+
+some-groups-requires : tie.Need-some-groups-requires
+some-groups-requires c κs = let h = held c in (h .0, h .1, c .before .before .before .before .pre .3, omega arith)
+
+returns : tie.Need-returns
+returns c =
+    let a = c .before .before .before .before .before .args in
+    let h = held (c .before) in
+    let all : 8 * (a .m / 8) ≡ a .m = omega arith in
+    c .some-groups .ensures ∙ ap (λ (n : ℕ). someBelow n (λ k. leb (a .limit) (field lowFirst (a .page .now) (8 * a .start + k * a .w) (a .w)))) all
+
+some-counted-requires : tie.Need-some-counted-requires
+some-counted-requires c κs = search needs
+
+same-length : tie.Need-same-length
+same-length c = search needs
+
+returns-2 : tie.Need-returns-2
+returns-2 c = search needs
+
+pub some-packed-spec : {M : Type 1} → statement M
+some-packed-spec =
+    tie.close
+    (tie.spec
+    sub-in-windows
+    in-windows-requires
+    some-groups-requires
+    returns
+    some-counted-requires
+    same-length
+    returns-2)

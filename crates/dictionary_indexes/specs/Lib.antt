@@ -1,0 +1,5 @@
+pub mod IndexPage
+pub mod IndexFaults
+pub mod Large
+pub mod IndexWindows
+pub mod SomeEntry

@@ -1,6 +1,0 @@
-// Delta pages, written: deltas, the widths of miniblocks, blocks, pages. Their laws stand in specs/.
-pub mod deltas;
-pub mod laying;
-pub mod minis;
-pub mod numbers;
-pub mod sizes;

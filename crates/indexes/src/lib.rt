@@ -1,5 +1,0 @@
-// Index pages of dictionary columns: judged, with indexes that are too large, and scanned by a range of indexes.
-pub mod finding;
-mod large;
-pub mod pages;
-mod windows;

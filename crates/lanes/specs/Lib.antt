@@ -1,9 +1,0 @@
-pub mod Planes
-pub mod Groups
-pub mod Fields
-pub mod Turned
-pub mod Rows
-pub mod Unpacked
-pub mod Laid
-pub mod Unused
-pub mod Columns

@@ -1,4 +1,0 @@
-pub mod Behind
-pub mod Whole
-pub mod Pieces
-pub mod Packed

@@ -1,4 +1,0 @@
-pub mod Steps
-pub mod Passed
-pub mod Written
-pub mod Octets

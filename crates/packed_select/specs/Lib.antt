@@ -1,0 +1,2 @@
+pub mod TwoPieces
+pub mod Banded

@@ -1,7 +1,0 @@
-// Entries of one width laid end to end in a page: into places, judged, and back. Their laws stand in specs/.
-pub mod chunks;
-pub mod groups;
-pub mod judging;
-pub mod laying;
-pub mod unpacking;
-pub mod widths;

@@ -1,6 +1,0 @@
-pub mod Ends
-pub mod Digits
-pub mod Starts
-pub mod Steps
-pub mod Groups
-pub mod Lanes

@@ -1,0 +1,4 @@
+pub mod SeveralGoes
+pub mod FromAByte
+pub mod PieceByPiece
+pub mod BodyParts

@@ -1,0 +1,11 @@
+pub mod Parts
+pub mod Bodies
+pub mod RunRead
+pub mod RunAfterRun
+pub mod Complete
+pub mod Sound
+pub mod Exact
+pub mod Walks
+pub mod TwoPasses
+pub mod One
+pub mod Entries

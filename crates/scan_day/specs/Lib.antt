@@ -1,0 +1,4 @@
+pub mod Clock
+pub mod SecondsPassed
+pub mod Picture
+pub mod Sentence

@@ -1,0 +1,4 @@
+pub mod Names
+pub mod LookedUp
+pub mod Numbers
+pub mod DigitByDigit

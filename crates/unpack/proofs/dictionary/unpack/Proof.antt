@@ -1,0 +1,80 @@
+-- `unpack::dictionary::unpack` meets its contract: the faults in their order, then the column's entries.
+use mathlib.Core.Path.{_≡_, sym, ap, _∙_}
+use Prim.Native.Nat.{_≤_}
+use native.Mathlib.Omega.{arith}
+use lib.ListN.{length}
+use borrow.Author.Needs.{needs}
+use Rattle.rules.specs.Answer.{_then_, countFault, roomFault, accepted}
+use Rattle.rules.specs.Dictionary as Dictionary
+use Rattle.answers.specs.Laws.{then-found, then-none, then-zero, within-count, has-room, refused-is, accepted-is}
+use Rattle.words.specs.Tabulated.{length-tabulate}
+use Rattle.unpack.proofs.dictionary.unpack.Statement.{statement}
+use Rattle.unpack.proofs.dictionary.unpack.Tie as tie
+
+signed-fault-requires : tie.Need-signed-fault-requires
+signed-fault-requires c κs = search needs
+
+refused-requires : tie.Need-refused-requires
+refused-requires c κs = search needs
+
+returns : tie.Need-returns
+unfolding Dictionary.unpack
+returns c =
+    refused-is _ _ _ _ _ _ (c .refused .ensures) (then-found _ _ _ (sym (c .before .before .signed-fault .ensures)) (c .before .if1 .taken)) (c .before .if1 .taken)
+
+-- past the first refusal the column keeps to its limit
+kept : (c : tie.Else1) → c .before .before .before .before .args .n ≤ 16384
+kept c = within-count _ (sym (c .before .signed-fault .ensures) ∙ c .if1 .left)
+
+column-fault-requires : tie.Need-column-fault-requires
+column-fault-requires c κs = kept c
+
+-- all faults, in their order, come to the last code found
+faults : (c : tie.After-column-fault) → let a = c .before .before .before .before .before .args in
+    (countFault (a .n) then roomFault (length (a .entries .now)) (a .n) then Dictionary.columnFault (a .dict .now) (a .n) (a .page .now)) ≡ c .column-fault .result
+faults c = then-none _ _ (sym (c .before .before .signed-fault .ensures) ∙ c .before .if1 .left) ∙ sym (c .column-fault .ensures)
+
+refused-requires-2 : tie.Need-refused-requires-2
+refused-requires-2 c κs = search needs
+
+returns-2 : tie.Need-returns-2
+unfolding Dictionary.unpack
+returns-2 c = refused-is _ _ _ _ _ _ (c .refused2 .ensures) (faults (c .before .before)) (c .before .if2 .taken)
+
+place-requires : tie.Need-place-requires
+place-requires c κs =
+    let e = c .before in
+    let z = then-zero _ _ (sym (e .before .column-fault .ensures) ∙ e .if2 .left) in
+    (kept (e .before .before), has-room _ _ (z .0), z .1)
+
+cast-accepted : tie.Need-cast-accepted
+cast-accepted c = omega (arith, kept (c .before .before .before .before .before))
+
+accepted-requires : tie.Need-accepted-requires
+accepted-requires c κs = search needs
+
+same-length : tie.Need-same-length
+same-length c = search needs
+
+returns-3 : tie.Need-returns-3
+unfolding Dictionary.unpack
+returns-3 c =
+    let s = c .before .before in
+    let e = s .before .before in
+    accepted-is _ _ _ _ _ _ (faults (e .before) ∙ e .if2 .left) (c .accepted .ensures ∙ ap accepted (sym (length-tabulate _ _))) (s .place .ensures)
+
+pub unpack-spec : {M : Type 1} → statement M
+unpack-spec =
+    tie.close
+    (tie.spec
+    signed-fault-requires
+    refused-requires
+    returns
+    column-fault-requires
+    refused-requires-2
+    returns-2
+    place-requires
+    cast-accepted
+    accepted-requires
+    same-length
+    returns-3)

@@ -1,0 +1,69 @@
+-- `unpack::dictionary_lookup::fill` meets its contract: each turn fills one place more.
+use mathlib.Core.Path.{_≡_}
+use Prim.Native.Nat.{_-_, _≤_}
+use native.Mathlib.Omega.{arith}
+use lib.ListN.{length, length-set}
+use borrow.Author.Needs.{needs}
+use mir.Syntax.{w32}
+use mir.Val.{toZ, ofZ}
+use mir.ValLaws.{toZ-ofZ}
+use Rattle.rules.specs.Bits.{put, tabulate}
+use Rattle.words.specs.Puts.{put-none}
+use Rattle.words.specs.Tabulated.{put-tabulate}
+use Rattle.unpack.proofs.dictionary_lookup.fill.Statement.{statement}
+use Rattle.unpack.proofs.dictionary_lookup.fill.Tie as tie
+
+abbrev Inv-loop : tie.InvT-loop
+Inv-loop places₀ m value i₀ places i = (i ≤ m) × (length places ≡ length places₀) × (places ≡ put places₀ 0 (tabulate i (λ _. toZ w32 value)))
+
+abbrev μ-loop : tie.MeasureT-loop
+μ-loop places₀ m value i₀ places i = m - i
+
+loop-holds : tie.Need-loop-holds Inv-loop μ-loop
+unfolding tabulate
+loop-holds c = (omega arith, omega arith, put-none (c .args .places .now) 0)
+
+mul-value : tie.Need-mul-value Inv-loop μ-loop
+mul-value c = search needs
+
+slice-set-from-value : tie.Need-slice-set-from-value Inv-loop μ-loop
+slice-set-from-value c = search needs
+
+add-i : tie.Need-add-i Inv-loop μ-loop
+add-i c = search needs
+
+loop-less : tie.Need-loop-less Inv-loop μ-loop
+loop-less c = search needs
+
+loop-again : tie.Need-loop-again Inv-loop μ-loop
+loop-again c =
+    let a = c .before .before .args in
+    let l = c .before .loop in (
+      omega arith,
+      simp length-set (l .inv .1),
+      rw (l .inv .2) (put-tabulate (a .places .now) (l .i) (λ _. toZ w32 (ofZ w32 (a .value))) (omega arith)),
+    )
+
+same-length : tie.Need-same-length Inv-loop μ-loop
+same-length c = search needs
+
+returns : tie.Need-returns Inv-loop μ-loop
+returns c =
+    let s = c .before .before in
+    let all : c .before .loop .i ≡ s .args .m = omega arith in
+    rw (← all) (rw (toZ-ofZ w32 (s .args .value) (s .fits .value)) at (c .before .loop .inv .2))
+
+pub fill-spec : {M : Type 1} → statement M
+fill-spec =
+    tie.close
+    (tie.spec
+    Inv-loop
+    μ-loop
+    loop-holds
+    mul-value
+    slice-set-from-value
+    add-i
+    loop-less
+    loop-again
+    same-length
+    returns)

@@ -1,0 +1,3 @@
+pub mod UnusedLanes
+pub mod GoodColumn
+pub mod Chosen

@@ -1,0 +1,9 @@
+pub mod Planes
+pub mod GroupThereAndBack
+pub mod Fields
+pub mod Turned
+pub mod Rows
+pub mod Unpacked
+pub mod PlanesFromBytes
+pub mod NoLaneSet
+pub mod ColumnThereAndBack
