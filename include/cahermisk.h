@@ -35,23 +35,23 @@ extern "C" {
 /* The code of an answer. */
 enum cahermisk_code {
     CAHERMISK_ACCEPTED = 0,
-    CAHERMISK_WIDTH_ABOVE_32 = 1,        /* width above 32 */
-    CAHERMISK_TOO_MANY_ENTRIES = 2,      /* more than 16,384 entries */
-    CAHERMISK_OPERATOR_ABOVE_7 = 3,      /* operator above 7 */
-    CAHERMISK_OUTPUT_TOO_SHORT = 4,      /* output too short */
-    CAHERMISK_INPUT_ENDS_TOO_EARLY = 5,  /* input ends too early */
-    CAHERMISK_INPUT_LEFT_OVER = 6,       /* input left over */
-    CAHERMISK_UNUSED_BITS_NOT_0 = 7,     /* unused bits not 0 */
-    CAHERMISK_VALUE_TOO_LARGE = 8,       /* entry or run value not below 2^width */
-    CAHERMISK_NUMBER_BEYOND_32_BITS = 9, /* variable-length number beyond 32 bits */
-    CAHERMISK_RUN_OF_LENGTH_0 = 10,      /* run of length 0 */
-    CAHERMISK_RUN_PAST_N = 11,           /* run goes too far past n, or n are covered */
-    CAHERMISK_DELTA_SHAPE = 12,          /* delta shape */
-    CAHERMISK_DELTA_COUNT_NOT_N = 13,    /* delta count is not n */
-    CAHERMISK_MALFORMED_DICTIONARY = 14, /* dictionary: its length, or not ascending */
-    CAHERMISK_INDEX_TOO_LARGE = 15,      /* index not below the dictionary's count */
-    CAHERMISK_UNNEEDED_WIDTH_NOT_0 = 16, /* width byte of an unneeded miniblock not 0 */
-    CAHERMISK_MINIBLOCK_TOO_WIDE = 17    /* delta writer: it needs more than 32 bits */
+    CAHERMISK_WIDTH_ABOVE_LIMIT = 1,      /* width above 32 */
+    CAHERMISK_TOO_MANY_ENTRIES = 2,       /* more than 16,384 entries */
+    CAHERMISK_OPERATOR_ABOVE_7 = 3,       /* operator above 7 */
+    CAHERMISK_OUTPUT_TOO_SHORT = 4,       /* output too short */
+    CAHERMISK_INPUT_ENDS_TOO_EARLY = 5,   /* input ends too early */
+    CAHERMISK_INPUT_LEFT_OVER = 6,        /* input left over */
+    CAHERMISK_UNUSED_BITS_NOT_0 = 7,      /* unused bits not 0 */
+    CAHERMISK_VALUE_TOO_LARGE = 8,        /* entry or run value not below 2^width */
+    CAHERMISK_NUMBER_BEYOND_ITS_BITS = 9, /* variable-length number beyond 32 bits */
+    CAHERMISK_RUN_OF_LENGTH_0 = 10,       /* run of length 0 */
+    CAHERMISK_RUN_PAST_N = 11,            /* run goes too far past n, or n are covered */
+    CAHERMISK_DELTA_SHAPE = 12,           /* delta shape */
+    CAHERMISK_DELTA_COUNT_NOT_N = 13,     /* delta count is not n */
+    CAHERMISK_MALFORMED_DICTIONARY = 14,  /* dictionary: its length, or not ascending */
+    CAHERMISK_INDEX_TOO_LARGE = 15,       /* index not below the dictionary's count */
+    CAHERMISK_UNNEEDED_WIDTH_NOT_0 = 16,  /* width byte of an unneeded miniblock not 0 */
+    CAHERMISK_MINIBLOCK_TOO_WIDE = 17     /* delta writer: it needs more than 32 bits */
 };
 
 /*

@@ -8,7 +8,7 @@ use std::fmt;
 #[non_exhaustive]
 pub enum Refusal {
     /// 1: width above 32.
-    WidthAbove32,
+    WidthAboveLimit,
     /// 2: more than 16,384 entries.
     TooManyEntries,
     /// 3: operator above 7.
@@ -24,7 +24,7 @@ pub enum Refusal {
     /// 8: entry or run value not below 2^width.
     ValueTooLarge,
     /// 9: variable-length number beyond 32 bits.
-    NumberBeyond32Bits,
+    NumberBeyondItsBits,
     /// 10: run of length 0.
     RunOfLength0,
     /// 11: run goes too far past n, or one run is asked for with n covered.
@@ -57,7 +57,7 @@ impl Refusal {
     pub const fn from_code(code: u32) -> Option<Refusal> {
         Some(match code {
             0 => return None,
-            1 => Refusal::WidthAbove32,
+            1 => Refusal::WidthAboveLimit,
             2 => Refusal::TooManyEntries,
             3 => Refusal::OperatorAbove7,
             4 => Refusal::OutputTooShort,
@@ -65,7 +65,7 @@ impl Refusal {
             6 => Refusal::InputLeftOver,
             7 => Refusal::UnusedBitsNot0,
             8 => Refusal::ValueTooLarge,
-            9 => Refusal::NumberBeyond32Bits,
+            9 => Refusal::NumberBeyondItsBits,
             10 => Refusal::RunOfLength0,
             11 => Refusal::RunPastN,
             12 => Refusal::DeltaShape,
@@ -81,7 +81,7 @@ impl Refusal {
     /// The code of the refusal, from 1 up.
     pub const fn code(self) -> u32 {
         match self {
-            Refusal::WidthAbove32 => 1,
+            Refusal::WidthAboveLimit => 1,
             Refusal::TooManyEntries => 2,
             Refusal::OperatorAbove7 => 3,
             Refusal::OutputTooShort => 4,
@@ -89,7 +89,7 @@ impl Refusal {
             Refusal::InputLeftOver => 6,
             Refusal::UnusedBitsNot0 => 7,
             Refusal::ValueTooLarge => 8,
-            Refusal::NumberBeyond32Bits => 9,
+            Refusal::NumberBeyondItsBits => 9,
             Refusal::RunOfLength0 => 10,
             Refusal::RunPastN => 11,
             Refusal::DeltaShape => 12,
@@ -106,7 +106,7 @@ impl Refusal {
 impl fmt::Display for Refusal {
     fn fmt(&self, f: &mut fmt::Formatter<'_>) -> fmt::Result {
         f.write_str(match self {
-            Refusal::WidthAbove32 => "width above 32",
+            Refusal::WidthAboveLimit => "width above 32",
             Refusal::TooManyEntries => "more than 16,384 entries",
             Refusal::OperatorAbove7 => "operator above 7",
             Refusal::OutputTooShort => "output too short",
@@ -114,7 +114,7 @@ impl fmt::Display for Refusal {
             Refusal::InputLeftOver => "input left over",
             Refusal::UnusedBitsNot0 => "unused bits not 0",
             Refusal::ValueTooLarge => "entry or run value not below 2^width",
-            Refusal::NumberBeyond32Bits => "variable-length number beyond 32 bits",
+            Refusal::NumberBeyondItsBits => "variable-length number beyond 32 bits",
             Refusal::RunOfLength0 => "run of length 0",
             Refusal::RunPastN => "run goes too far past n, or one run is asked for with n covered",
             Refusal::DeltaShape => "delta shape",

@@ -39,7 +39,7 @@ const NEEDS_CXX: &str = "this test needs a C++ compiler, c++, on PATH";
 /// The header's names with document 01's numbers.
 const NUMBERS: [(&str, u32); 44] = [
     ("CAHERMISK_ACCEPTED", 0),
-    ("CAHERMISK_WIDTH_ABOVE_32", 1),
+    ("CAHERMISK_WIDTH_ABOVE_LIMIT", 1),
     ("CAHERMISK_TOO_MANY_ENTRIES", 2),
     ("CAHERMISK_OPERATOR_ABOVE_7", 3),
     ("CAHERMISK_OUTPUT_TOO_SHORT", 4),
@@ -47,7 +47,7 @@ const NUMBERS: [(&str, u32); 44] = [
     ("CAHERMISK_INPUT_LEFT_OVER", 6),
     ("CAHERMISK_UNUSED_BITS_NOT_0", 7),
     ("CAHERMISK_VALUE_TOO_LARGE", 8),
-    ("CAHERMISK_NUMBER_BEYOND_32_BITS", 9),
+    ("CAHERMISK_NUMBER_BEYOND_ITS_BITS", 9),
     ("CAHERMISK_RUN_OF_LENGTH_0", 10),
     ("CAHERMISK_RUN_PAST_N", 11),
     ("CAHERMISK_DELTA_SHAPE", 12),

@@ -40,11 +40,11 @@ impl Run<'_> {
 ///
 /// # Errors
 ///
-/// The first that holds of [`WidthAbove32`](Refusal::WidthAbove32),
+/// The first that holds of [`WidthAboveLimit`](Refusal::WidthAboveLimit),
 /// [`TooManyEntries`](Refusal::TooManyEntries), [`InputEndsTooEarly`](Refusal::InputEndsTooEarly) for a
 /// place past the page's end, [`RunPastN`](Refusal::RunPastN) if `n` or more are covered; then
 /// [`InputEndsTooEarly`](Refusal::InputEndsTooEarly) or
-/// [`NumberBeyond32Bits`](Refusal::NumberBeyond32Bits) for the run's header,
+/// [`NumberBeyondItsBits`](Refusal::NumberBeyondItsBits) for the run's header,
 /// [`RunOfLength0`](Refusal::RunOfLength0), [`RunPastN`](Refusal::RunPastN),
 /// [`InputEndsTooEarly`](Refusal::InputEndsTooEarly) for what follows the header, and
 /// [`ValueTooLarge`](Refusal::ValueTooLarge).

@@ -47,10 +47,10 @@ fn pages_refuse() {
     for (page, refusal) in [
         (&PAGE[..17], Refusal::InputEndsTooEarly),
         (&longer, Refusal::InputLeftOver),
-        (&beyond, Refusal::NumberBeyond32Bits),
+        (&beyond, Refusal::NumberBeyondItsBits),
         (&changed(2, 3), Refusal::DeltaShape),
         (&changed(3, 9), Refusal::DeltaCountNotN),
-        (&changed(6, 33), Refusal::WidthAbove32),
+        (&changed(6, 33), Refusal::WidthAboveLimit),
         (&changed(7, 2), Refusal::UnneededWidthNot0),
     ] {
         let mut bitmap = [0xA5];

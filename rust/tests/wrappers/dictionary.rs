@@ -52,7 +52,7 @@ fn columns_refuse() {
         (three, &PAGE, Refusal::IndexTooLarge),
         (&good, &PAGE[..3], Refusal::InputEndsTooEarly),
         (&good, &[], Refusal::InputEndsTooEarly),
-        (&good, &[0x21, 0x03], Refusal::WidthAbove32),
+        (&good, &[0x21, 0x03], Refusal::WidthAboveLimit),
         (
             &good,
             &[0x02, 0x03, 0x1B, 0x1B, 0x00],
@@ -64,7 +64,7 @@ fn columns_refuse() {
         (
             &good,
             &[0x02, 0xFF, 0xFF, 0xFF, 0xFF, 0x10],
-            Refusal::NumberBeyond32Bits,
+            Refusal::NumberBeyondItsBits,
         ),
     ] {
         let mut bitmap = [0xA5];

@@ -22,7 +22,7 @@ fn huge_arguments_are_refused<T>(layout: &Layout<T>) {
         assert_eq!((layout.unpack_to_vec)(page, 3, n), Err(many));
         assert_eq!((layout.scan)(page, 3, n, less, &mut []), Err(many));
         assert_eq!((layout.unpack)(page, 3, n, &mut []), Err(many));
-        let wide = Refusal::WidthAbove32;
+        let wide = Refusal::WidthAboveLimit;
         assert_eq!((layout.unpack_to_vec)(page, u32::MAX, n), Err(wide));
         assert_eq!((layout.scan_to_bitmap)(page, 33, n, less), Err(wide));
     }

@@ -3,7 +3,7 @@
 use cahermisk::{Operator, Refusal};
 
 const REFUSALS: [(Refusal, u32, &str); 17] = [
-    (Refusal::WidthAbove32, 1, "width above 32"),
+    (Refusal::WidthAboveLimit, 1, "width above 32"),
     (Refusal::TooManyEntries, 2, "more than 16,384 entries"),
     (Refusal::OperatorAbove7, 3, "operator above 7"),
     (Refusal::OutputTooShort, 4, "output too short"),
@@ -16,7 +16,7 @@ const REFUSALS: [(Refusal, u32, &str); 17] = [
         "entry or run value not below 2^width",
     ),
     (
-        Refusal::NumberBeyond32Bits,
+        Refusal::NumberBeyondItsBits,
         9,
         "variable-length number beyond 32 bits",
     ),

@@ -30,7 +30,7 @@ fn scans_refuse<T: Copy>(layout: &Layout<T>) {
         answer
     };
     let (page, longer) = (layout.page, &longer(layout));
-    assert_eq!(scan(page, 33, 8, 1), Err(Refusal::WidthAbove32));
+    assert_eq!(scan(page, 33, 8, 1), Err(Refusal::WidthAboveLimit));
     assert_eq!(scan(page, 3, 16_385, 1), Err(Refusal::TooManyEntries));
     assert_eq!(scan(page, 3, 8, 0), Err(Refusal::OutputTooShort));
     let shorter = shorter(layout);
@@ -46,7 +46,7 @@ fn unpacks_refuse<T: Copy>(layout: &Layout<T>) {
         answer
     };
     let (page, longer) = (layout.page, &longer(layout));
-    assert_eq!(unpack(page, 33, 8, 8), Err(Refusal::WidthAbove32));
+    assert_eq!(unpack(page, 33, 8, 8), Err(Refusal::WidthAboveLimit));
     assert_eq!(unpack(page, 3, 16_385, 8), Err(Refusal::TooManyEntries));
     assert_eq!(unpack(page, 3, 8, 7), Err(Refusal::OutputTooShort));
     let shorter = shorter(layout);
@@ -78,7 +78,7 @@ fn packs_refuse<T: Copy + Debug + PartialEq>(layout: &Layout<T>) {
         assert_eq!(page, vec![layout.page[0]; room], "a refusal wrote");
         answer
     };
-    assert_eq!(pack(&ENTRIES, 33, 3), Err(Refusal::WidthAbove32));
+    assert_eq!(pack(&ENTRIES, 33, 3), Err(Refusal::WidthAboveLimit));
     assert_eq!(pack(&[0; 16_385], 3, 3), Err(Refusal::TooManyEntries));
     assert_eq!(pack(&ENTRIES, 2, 3), Err(Refusal::ValueTooLarge));
     let short = layout.page.len() - 1;
@@ -86,5 +86,5 @@ fn packs_refuse<T: Copy + Debug + PartialEq>(layout: &Layout<T>) {
 
     let to_vec = layout.pack_to_vec;
     assert_eq!(to_vec(&[0; 16_385], 32), Err(Refusal::TooManyEntries));
-    assert_eq!(to_vec(&[1], u32::MAX), Err(Refusal::WidthAbove32));
+    assert_eq!(to_vec(&[1], u32::MAX), Err(Refusal::WidthAboveLimit));
 }

@@ -25,7 +25,7 @@ fn streams_refuse() {
         (
             &[0xFF, 0xFF, 0xFF, 0xFF, 0x10][..],
             3,
-            Refusal::NumberBeyond32Bits,
+            Refusal::NumberBeyondItsBits,
         ),
         (&[0x00, 0x05], 3, Refusal::RunOfLength0),
         (&PAGE, 2, Refusal::RunPastN),
@@ -43,7 +43,7 @@ fn one_run_at_a_place() {
     assert_eq!(next(&PAGE, 3, 11, 2, 3), Ok((group(&PAGE), 6)));
     assert_eq!(next(&PAGE, 3, 4, 2, 3), Ok((group(&PAGE), 6)));
     assert_eq!((FOURS.length(), group(&PAGE).length()), (3, 8));
-    assert_eq!(next(&PAGE, 33, 11, 0, 0), Err(Refusal::WidthAbove32));
+    assert_eq!(next(&PAGE, 33, 11, 0, 0), Err(Refusal::WidthAboveLimit));
     assert_eq!(next(&PAGE, 3, 16_385, 0, 0), Err(Refusal::TooManyEntries));
     assert_eq!(next(&PAGE, 3, 11, 7, 0), Err(Refusal::InputEndsTooEarly));
     assert_eq!(next(&PAGE, 3, 11, 0, 11), Err(Refusal::RunPastN));
@@ -102,7 +102,7 @@ fn runs_end_with_a_refusal() {
         (&PAGE, 3, 12, 2, Refusal::InputEndsTooEarly),
         (&PAGE, 3, 2, 0, Refusal::RunPastN),
         (&PAGE, 2, 11, 0, Refusal::ValueTooLarge),
-        (&PAGE, 33, 11, 0, Refusal::WidthAbove32),
+        (&PAGE, 33, 11, 0, Refusal::WidthAboveLimit),
         (&PAGE, 3, usize::MAX, 0, Refusal::TooManyEntries),
     ] {
         let mut runs = Runs::new(page, width, n);
