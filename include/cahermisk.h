@@ -45,13 +45,15 @@ enum cahermisk_code {
     CAHERMISK_VALUE_TOO_LARGE = 8,        /* entry or run value not below 2^width */
     CAHERMISK_NUMBER_BEYOND_ITS_BITS = 9, /* variable-length number beyond 32 bits */
     CAHERMISK_RUN_OF_LENGTH_0 = 10,       /* run of length 0 */
-    CAHERMISK_RUN_PAST_N = 11,            /* run goes too far past n, or n are covered */
+    CAHERMISK_RUN_PAST_N = 11,            /* run goes too far past n, or one run is asked
+                                             for with n covered */
     CAHERMISK_DELTA_SHAPE = 12,           /* delta shape */
     CAHERMISK_DELTA_COUNT_NOT_N = 13,     /* delta count is not n */
-    CAHERMISK_MALFORMED_DICTIONARY = 14,  /* dictionary: its length, or not ascending */
+    CAHERMISK_MALFORMED_DICTIONARY = 14,  /* dictionary: length no multiple of 4, over
+                                             65,536 bytes, or values not strictly ascending */
     CAHERMISK_INDEX_TOO_LARGE = 15,       /* index not below the dictionary's count */
     CAHERMISK_UNNEEDED_WIDTH_NOT_0 = 16,  /* width byte of an unneeded miniblock not 0 */
-    CAHERMISK_MINIBLOCK_TOO_WIDE = 17     /* delta writer: it needs more than 32 bits */
+    CAHERMISK_MINIBLOCK_TOO_WIDE = 17     /* delta writer: a miniblock needs more than 32 bits */
 };
 
 /*

@@ -52,6 +52,7 @@ macro_rules! refusals {
     };
 }
 
+// As data/codes.txt has them: rust/tests/codes.rs holds this list to it.
 refusals! {
     1 WidthAboveLimit "width above 32",
     2 TooManyEntries "more than 16,384 entries",

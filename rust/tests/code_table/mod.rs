@@ -1,0 +1,23 @@
+//! The rows of data/codes.txt, for every test that speaks of all codes.
+
+const TABLE: &str = include_str!("../../../data/codes.txt");
+
+/// What stands for a name or words that a code has not.
+pub const NONE: &str = "-";
+
+/// Of each code in turn: number, name in C, name in Rust, what it means, what the program says it means.
+pub fn rows() -> Vec<[&'static str; 5]> {
+    let is_row = |line: &&str| !line.is_empty() && !line.starts_with('#');
+    let rows: Vec<_> = TABLE.lines().filter(is_row).map(cells).collect();
+    for (place, [number, ..]) in rows.iter().enumerate() {
+        let counted = place.to_string();
+        assert_eq!(*number, counted, "data/codes.txt goes on from 0 by ones");
+    }
+    rows
+}
+
+fn cells(row: &str) -> [&str; 5] {
+    let cells: Vec<&str> = row.split(" | ").collect();
+    let five = cells.try_into();
+    five.unwrap_or_else(|_| panic!("data/codes.txt: a row has not five cells: {row}"))
+}

@@ -1,0 +1,111 @@
+//! Whoever names a code names it as data/codes.txt does: the header, README.md, the package, the program `scan`.
+
+use std::error::Error;
+use std::fmt::Debug;
+
+use cahermisk::Refusal;
+use code_table::{rows, NONE};
+
+mod code_table;
+
+const HEADER: &str = include_str!("../../include/cahermisk.h");
+const README: &str = include_str!("../../README.md");
+const PROGRAM: &str = include_str!("../../crates/scan_says/src/lib.rt");
+
+/// All that a place says of codes is what the rows say, in their order.
+fn hold<T: PartialEq + Debug>(place: &str, said: &[T], rows: &[T]) {
+    for (said, row) in said.iter().zip(rows) {
+        assert_eq!(said, row, "{place} (left) and data/codes.txt (right)");
+    }
+    let (said, rows) = (said.len(), rows.len());
+    assert_eq!(said, rows, "codes in {place} and in data/codes.txt");
+}
+
+/// What stands between two texts, the first time that they stand there.
+fn between<'a>(text: &'a str, before: &str, after: &str) -> Option<&'a str> {
+    let (_, rest) = text.split_once(before)?;
+    Some(rest.split_once(after)?.0)
+}
+
+/// The number, the name and the comment of a line of the header's enum. A comment may be broken into lines.
+fn in_header(line: &'static str) -> Option<[String; 3]> {
+    let (name, rest) = line.split_once(" = ")?;
+    let (number, _) = rest.split_once(|c: char| !c.is_ascii_digit())?;
+    let comment = between(rest, "/*", "*/").unwrap_or(NONE);
+    let words: Vec<&str> = comment.split_whitespace().collect();
+    Some([number.to_owned(), name.to_owned(), words.join(" ")])
+}
+
+#[test]
+fn the_header_names_each_code() {
+    let codes = between(HEADER, "enum cahermisk_code {", "};");
+    let lines = codes.expect("the enum of codes").split("CAHERMISK_");
+    let said: Vec<_> = lines.filter_map(in_header).collect();
+    let told = |[number, name, _, words, _]: [&str; 5]| [number, name, words].map(str::to_owned);
+    let rows: Vec<_> = rows().into_iter().map(told).collect();
+    hold("include/cahermisk.h", &said, &rows);
+}
+
+#[test]
+fn the_readme_tells_what_each_refusal_means() {
+    let section = between(README, "\n## Codes\n", "\n## ").expect("the section of codes");
+    let in_row = |line: &'static str| {
+        let (number, rest) = line.strip_prefix("| ")?.split_once(" | ")?;
+        number.parse::<u32>().ok()?;
+        Some([number, rest.split_once(" | ")?.0])
+    };
+    let said: Vec<_> = section.lines().filter_map(in_row).collect();
+    let meant = |[number, _, _, words, _]: [&'static str; 5]| [number, words];
+    let refusals = rows().into_iter().map(meant);
+    let rows: Vec<_> = refusals.filter(|row| row[1] != NONE).collect();
+    hold("README.md", &said, &rows);
+}
+
+/// The number, the name and the words that the package has for a code.
+fn in_package(code: u32) -> [String; 3] {
+    let Some(refusal) = Refusal::from_code(code) else {
+        return [code.to_string(), NONE.to_owned(), NONE.to_owned()];
+    };
+    let error: Box<dyn Error> = Box::new(refusal);
+    let (number, words) = (refusal.code().to_string(), error.to_string());
+    [number, format!("{refusal:?}"), words]
+}
+
+#[test]
+fn the_package_names_each_refusal() {
+    let is_known = |code: &u32| !matches!(Refusal::from_code(*code), Some(Refusal::Unknown(_)));
+    let said: Vec<_> = (0..).take_while(is_known).map(in_package).collect();
+    let told = |[number, _, name, words, _]: [&str; 5]| [number, name, words].map(str::to_owned);
+    let rows: Vec<_> = rows().into_iter().map(told).collect();
+    hold("rust/src/refusal.rs", &said, &rows);
+}
+
+#[test]
+fn the_package_keeps_the_number_of_a_code_that_it_has_no_name_for() {
+    for code in [rows().len() as u32, u32::MAX] {
+        let unknown = Refusal::from_code(code);
+        assert_eq!(unknown, Some(Refusal::Unknown(code)));
+        assert_eq!(unknown.map(Refusal::code), Some(code));
+        let words = unknown.map(|refusal| refusal.to_string());
+        assert_eq!(words, Some(format!("refused with code {code}")));
+    }
+}
+
+/// An arm of a number that says something, from its parts before and behind `=> say(`: the number and the words.
+fn arm<'a>(before: &'a str, behind: &'a str) -> Option<[&'a str; 2]> {
+    let number = before.split_whitespace().last()?;
+    number.parse::<u32>().ok()?;
+    let words = behind.trim_start().strip_prefix("b\"")?;
+    Some([number, words.split_once('"')?.0])
+}
+
+#[test]
+fn the_program_says_what_each_refusal_means() {
+    let parts: Vec<&str> = PROGRAM.split("=> say(").collect();
+    let arms = parts.windows(2).filter_map(|pair| arm(pair[0], pair[1]));
+    let said: Vec<_> = arms.collect();
+    let told = |[number, _, _, _, sentence]: [&'static str; 5]| [number, sentence];
+    let all = rows().into_iter().map(told);
+    let rows: Vec<_> = all.filter(|row| row[1] != NONE).collect();
+    hold("crates/scan_says/src/lib.rt", &said, &rows);
+}
