@@ -4,6 +4,8 @@ use std::fs;
 use std::path::{Path, PathBuf};
 use std::process::{Command, Output};
 
+mod code_table;
+
 /// The top of the repository.
 fn top() -> PathBuf {
     Path::new(env!("CARGO_MANIFEST_DIR")).join("..")
@@ -36,26 +38,8 @@ fn run(command: &mut Command, needs: &str) -> Output {
 const NEEDS_CC: &str = "this test needs a C compiler, cc, on PATH";
 const NEEDS_CXX: &str = "this test needs a C++ compiler, c++, on PATH";
 
-/// The header's names with document 01's numbers.
-const NUMBERS: [(&str, u32); 44] = [
-    ("CAHERMISK_ACCEPTED", 0),
-    ("CAHERMISK_WIDTH_ABOVE_LIMIT", 1),
-    ("CAHERMISK_TOO_MANY_ENTRIES", 2),
-    ("CAHERMISK_OPERATOR_ABOVE_7", 3),
-    ("CAHERMISK_OUTPUT_TOO_SHORT", 4),
-    ("CAHERMISK_INPUT_ENDS_TOO_EARLY", 5),
-    ("CAHERMISK_INPUT_LEFT_OVER", 6),
-    ("CAHERMISK_UNUSED_BITS_NOT_0", 7),
-    ("CAHERMISK_VALUE_TOO_LARGE", 8),
-    ("CAHERMISK_NUMBER_BEYOND_ITS_BITS", 9),
-    ("CAHERMISK_RUN_OF_LENGTH_0", 10),
-    ("CAHERMISK_RUN_PAST_N", 11),
-    ("CAHERMISK_DELTA_SHAPE", 12),
-    ("CAHERMISK_DELTA_COUNT_NOT_N", 13),
-    ("CAHERMISK_MALFORMED_DICTIONARY", 14),
-    ("CAHERMISK_INDEX_TOO_LARGE", 15),
-    ("CAHERMISK_UNNEEDED_WIDTH_NOT_0", 16),
-    ("CAHERMISK_MINIBLOCK_TOO_WIDE", 17),
+/// The header's names with document 01's numbers, but for the codes, which data/codes.txt has.
+const NUMBERS: [(&str, u32); 26] = [
     ("CAHERMISK_EQUAL", 0),
     ("CAHERMISK_NOT_EQUAL", 1),
     ("CAHERMISK_LESS", 2),
@@ -87,7 +71,10 @@ const NUMBERS: [(&str, u32); 44] = [
 /// Compiles a file that includes the header alone, twice, calls its functions and holds its numbers to ours.
 fn compile_header(compiler: &str, needs: &str, standard: &str, file: &str) {
     let mut text = HEADER_USER.to_string();
-    for (i, (name, number)) in NUMBERS.iter().enumerate() {
+    let others = NUMBERS.map(|(name, number)| (name.to_owned(), number.to_string()));
+    let code = |[number, name, ..]: [&str; 5]| (format!("CAHERMISK_{name}"), number.to_owned());
+    let codes = code_table::rows().into_iter().map(code);
+    for (i, (name, number)) in codes.chain(others).enumerate() {
         text += &format!("typedef char number_{i}[{name} == {number} ? 1 : -1];\n");
     }
     let source = room(file).join(file);

@@ -1,16 +1,19 @@
-//! Whoever names a code names it as data/codes.txt does: the header, README.md, the package, the program `scan`.
+//! The header, README.md, the package and the program `scan` name each code as data/codes.txt does.
 
 use std::error::Error;
 use std::fmt::Debug;
 
 use cahermisk::Refusal;
-use code_table::{rows, NONE};
+use code_table::rows;
 
 mod code_table;
 
 const HEADER: &str = include_str!("../../include/cahermisk.h");
 const README: &str = include_str!("../../README.md");
 const PROGRAM: &str = include_str!("../../crates/scan_says/src/lib.rt");
+
+/// What a row has for a name or for words that its code has not.
+const NONE: &str = "-";
 
 /// All that a place says of codes is what the rows say, in their order.
 fn hold<T: PartialEq + Debug>(place: &str, said: &[T], rows: &[T]) {
@@ -28,7 +31,7 @@ fn between<'a>(text: &'a str, before: &str, after: &str) -> Option<&'a str> {
 }
 
 /// The number, the name and the comment of a line of the header's enum. A comment may be broken into lines.
-fn in_header(line: &'static str) -> Option<[String; 3]> {
+fn in_header(line: &str) -> Option<[String; 3]> {
     let (name, rest) = line.split_once(" = ")?;
     let (number, _) = rest.split_once(|c: char| !c.is_ascii_digit())?;
     let comment = between(rest, "/*", "*/").unwrap_or(NONE);
@@ -91,7 +94,7 @@ fn the_package_keeps_the_number_of_a_code_that_it_has_no_name_for() {
     }
 }
 
-/// An arm of a number that says something, from its parts before and behind `=> say(`: the number and the words.
+/// The number and the words of an arm `NUMBER => say(b"WORDS")`, from what is before and behind its `=> say(`.
 fn arm<'a>(before: &'a str, behind: &'a str) -> Option<[&'a str; 2]> {
     let number = before.split_whitespace().last()?;
     number.parse::<u32>().ok()?;

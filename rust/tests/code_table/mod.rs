@@ -2,10 +2,8 @@
 
 const TABLE: &str = include_str!("../../../data/codes.txt");
 
-/// What stands for a name or words that a code has not.
-pub const NONE: &str = "-";
-
-/// Of each code in turn: number, name in C, name in Rust, what it means, what the program says it means.
+/// Of each code in turn its number, its names in C and in Rust, what it means and what the program says of it;
+/// a dash where it has none.
 pub fn rows() -> Vec<[&'static str; 5]> {
     let is_row = |line: &&str| !line.is_empty() && !line.starts_with('#');
     let rows: Vec<_> = TABLE.lines().filter(is_row).map(cells).collect();

@@ -4,7 +4,7 @@ mod delta;
 mod dictionary;
 mod layout;
 mod limits;
-mod names;
+mod operators;
 mod refusals;
 mod results;
 mod runs;
