@@ -2,7 +2,7 @@
 
 const TABLE: &str = include_str!("../../../data/codes.txt");
 
-/// Of each code in turn its number, its names in C and in Rust, what it means and what the program says of it;
+/// Of each code in turn its number, its names in C and in Rust, what it means and what the program says;
 /// a dash where it has none.
 pub fn rows() -> Vec<[&'static str; 5]> {
     let is_row = |line: &&str| !line.is_empty() && !line.starts_with('#');
