@@ -58,12 +58,14 @@ has-room places need e = ltb-false places need (not-faulty _ 4 (λ h. omega arit
 
 module _ {A : Type 0} (n : ℕ) (wrote before : List A) where
   -- a code that is not 0 was found, and nothing was written
-  pub refused-is : (r : Answer) (code fault : ℕ) → r ≡ refusal code → fault ≡ code → (code ≡ 0 → ⊥) → outcome r before ≡ answered fault n wrote before
+  pub refused-is : (r : Answer) (code fault : ℕ) → r ≡ refusal code → fault ≡ code → (code ≡ 0 → ⊥)
+      → outcome r before ≡ answered fault n wrote before
   unfolding answered
   refused-is r zero fault e f some = absurd (some refl)
   refused-is r (suc code) fault e f some = rw (e, f)
 
   -- no fault was found, and all was written
-  pub accepted-is : (r : Answer) (fault : ℕ) (after : List A) → fault ≡ 0 → r ≡ accepted n → after ≡ put before 0 wrote → outcome r after ≡ answered fault n wrote before
+  pub accepted-is : (r : Answer) (fault : ℕ) (after : List A) → fault ≡ 0 → r ≡ accepted n
+      → after ≡ put before 0 wrote → outcome r after ≡ answered fault n wrote before
   unfolding answered
   accepted-is r fault after f e w = rw (f, e, w)

@@ -32,7 +32,8 @@ module _ (limits op : ℕ) (a b : ℤ) where
   unfolding argumentsOf judged
   good-arguments band = go limits refl (bandOf op a b) refl
     where
-      go : (code : ℕ) → limits ≡ code → (c : Comparison) → bandOf op a b ≡ c → judged code c ≡ Good band → Known limits op a b band
+      go : (code : ℕ) → limits ≡ code → (c : Comparison) → bandOf op a b ≡ c → judged code c ≡ Good band
+          → Known limits op a b band
       go zero e (Of x) f g =
           let same : x ≡ band = cc in
           record {
@@ -44,28 +45,35 @@ module _ (limits op : ℕ) (a b : ℤ) where
       go (suc code) e c f g = let z : _≡_ {A = ℕ} 0 1 = cc in absurd (omega arith)
 
   -- a scan refused for its arguments
-  pub scan-bad : (rest m : ℕ) (test : ℕ → Bool) (before : List ℕ) (r : Answer) (code : ℕ) → argumentsOf limits op a b ≡ Bad code → r ≡ refusal code
+  pub scan-bad : (rest m : ℕ) (test : ℕ → Bool) (before : List ℕ) (r : Answer) (code : ℕ)
+      → argumentsOf limits op a b ≡ Bad code → r ≡ refusal code
       → outcome r before ≡ scanned (limits then operatorFault op then rest) m test before
   unfolding argumentsOf judged
   scan-bad rest m test before r code = go limits refl (bandOf op a b) refl
     where
-      go : (found : ℕ) → limits ≡ found → (c : Comparison) → bandOf op a b ≡ c → judged found c ≡ Bad code → r ≡ refusal code
+      go : (found : ℕ) → limits ≡ found → (c : Comparison) → bandOf op a b ≡ c → judged found c ≡ Bad code
+          → r ≡ refusal code
           → outcome r before ≡ scanned (limits then operatorFault op then rest) m test before
       go zero e (Of x) f g k = let z : _≡_ {A = ℕ} 0 1 = cc in absurd (omega arith)
       go zero e Unknown f g k =
           let three : 3 ≡ code = cc in
-          refused-is _ _ _ r code _ k (then-none _ _ e ∙ then-found _ _ _ (operator-found op a b f ∙ three) (λ z. omega arith)) (λ z. omega arith)
+          refused-is _ _ _ r code _ k
+          (then-none _ _ e ∙ then-found _ _ _ (operator-found op a b f ∙ three) (λ z. omega arith))
+          (λ z. omega arith)
       go (suc found) e c f g k =
           let same : suc found ≡ code = cc in
           refused-is _ _ _ r code _ k (then-found _ _ _ (e ∙ same) (λ z. omega arith)) (λ z. omega arith)
 
   -- a scan with good arguments answers by its band, whose test is the comparison's
-  pub scan-good : (rest n : ℕ) (entries : ℕ → ℤ) (before after : List ℕ) (r : Answer) (band : Band) → argumentsOf limits op a b ≡ Good band
-      → ((i : ℕ) → i < n → Within 64 (entries i)) → outcome r after ≡ scanned rest n (λ i. banded band (entries i)) before
+  pub scan-good : (rest n : ℕ) (entries : ℕ → ℤ) (before after : List ℕ) (r : Answer) (band : Band)
+      → argumentsOf limits op a b ≡ Good band
+      → ((i : ℕ) → i < n → Within 64 (entries i))
+      → outcome r after ≡ scanned rest n (λ i. banded band (entries i)) before
       → outcome r after ≡ scanned (limits then operatorFault op then rest) n (λ i. holds op a b (entries i)) before
   scan-good rest n entries before after r band e small done =
       let known = good-arguments band e in
-      let same : (i : ℕ) → i < n → banded band (entries i) ≡ holds op a b (entries i) = λ i l. holds-band op a b (entries i) band (small i l) (known .chosen) in
+      let same : (i : ℕ) → i < n → banded band (entries i) ≡ holds op a b (entries i) =
+      λ i l. holds-band op a b (entries i) band (small i l) (known .chosen) in
       done ∙ ap (λ (code : ℕ). scanned code n (λ i. banded band (entries i)) before) (sym (known .none rest))
       ∙ scanned-ext _ n _ _ before same
 
@@ -75,11 +83,14 @@ module _ (w n op : ℕ) (a b : ℤ) (band : Band) (e : argumentsOf (limitFault w
   pub unsigned-limits : (w ≤ 32) × (n ≤ 16384)
   unsigned-limits = within-limits w n (good-arguments (limitFault w n) op a b band e .within)
 
-  pub unsigned-good : (rest : ℕ) (entries : ℕ → ℕ) (before after : List ℕ) (r : Answer) → ((i : ℕ) → entries i < 4294967296)
+  pub unsigned-good : (rest : ℕ) (entries : ℕ → ℕ) (before after : List ℕ) (r : Answer)
+      → ((i : ℕ) → entries i < 4294967296)
       → outcome r after ≡ scanned rest n (λ i. banded band (pos (entries i))) before
-      → outcome r after ≡ scanned (limitFault w n then operatorFault op then rest) n (λ i. holds op a b (pos (entries i))) before
+      → outcome r after
+      ≡ scanned (limitFault w n then operatorFault op then rest) n (λ i. holds op a b (pos (entries i))) before
   unsigned-good rest entries before after r small done =
-      scan-good (limitFault w n) op a b rest n (λ i. pos (entries i)) before after r band e (λ i l. omega (arith, small i)) done
+      scan-good (limitFault w n) op a b rest n (λ i. pos (entries i)) before after r band e
+      (λ i l. omega (arith, small i)) done
 
 -- ---- signed columns: entries of 32 bits
 
@@ -87,8 +98,10 @@ module _ (n op : ℕ) (a b : ℤ) (band : Band) (e : argumentsOf (countFault n) 
   pub signed-limit : n ≤ 16384
   signed-limit = within-count n (good-arguments (countFault n) op a b band e .within)
 
-  pub signed-good : (rest : ℕ) (entries : ℕ → ℤ) (before after : List ℕ) (r : Answer) → ((i : ℕ) → Within 32 (entries i))
+  pub signed-good : (rest : ℕ) (entries : ℕ → ℤ) (before after : List ℕ) (r : Answer)
+      → ((i : ℕ) → Within 32 (entries i))
       → outcome r after ≡ scanned rest n (λ i. banded band (entries i)) before
-      → outcome r after ≡ scanned (countFault n then operatorFault op then rest) n (λ i. holds op a b (entries i)) before
+      → outcome r after
+      ≡ scanned (countFault n then operatorFault op then rest) n (λ i. holds op a b (entries i)) before
   signed-good rest entries before after r small done =
       scan-good (countFault n) op a b rest n entries before after r band e (λ i l. omega (arith, small i)) done

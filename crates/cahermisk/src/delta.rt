@@ -17,21 +17,24 @@ pub extern "C" fn cahermisk_delta_scan(
     b: i64,
     bitmap: &mut [u8],
 ) -> Answer
-    ensures { λ r. ⌜ outcome r (now (bitmap .exit)) ≡ Delta.scan 32 (now (page .entry)) n op a b (now (bitmap .entry)) ⌝ }
+    ensures { λ r. ⌜ outcome r (now (bitmap .exit))
+        ≡ Delta.scan 32 (now (page .entry)) n op a b (now (bitmap .entry)) ⌝ }
 {
     scan(page, n, op, a, b, bitmap)
 }
 
 #[no_mangle]
 pub extern "C" fn cahermisk_delta_unpack(page: &[u8], n: usize, entries: &mut [i32]) -> Answer
-    ensures { λ r. ⌜ outcome r (now (entries .exit)) ≡ Delta.unpack 32 (now (page .entry)) n (now (entries .entry)) ⌝ }
+    ensures { λ r. ⌜ outcome r (now (entries .exit))
+        ≡ Delta.unpack 32 (now (page .entry)) n (now (entries .entry)) ⌝ }
 {
     unpack(page, n, entries)
 }
 
 #[no_mangle]
 pub extern "C" fn cahermisk_delta_pack(entries: &[i32], page: &mut [u8]) -> Answer
-    ensures { λ r. ⌜ outcome r (now (page .exit)) ≡ DeltaWriter.pack 32 (now (entries .entry)) (now (page .entry)) ⌝ }
+    ensures { λ r. ⌜ outcome r (now (page .exit))
+        ≡ DeltaWriter.pack 32 (now (entries .entry)) (now (page .entry)) ⌝ }
 {
     pack(entries, page)
 }

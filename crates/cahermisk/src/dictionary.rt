@@ -16,7 +16,8 @@ pub extern "C" fn cahermisk_dictionary_scan(
     b: i64,
     bitmap: &mut [u8],
 ) -> Answer
-    ensures { λ r. ⌜ outcome r (now (bitmap .exit)) ≡ Dictionary.scan (now (dict .entry)) (now (page .entry)) n op a b (now (bitmap .entry)) ⌝ }
+    ensures { λ r. ⌜ outcome r (now (bitmap .exit))
+        ≡ Dictionary.scan (now (dict .entry)) (now (page .entry)) n op a b (now (bitmap .entry)) ⌝ }
 {
     scan(dict, page, n, op, a, b, bitmap)
 }
@@ -28,7 +29,8 @@ pub extern "C" fn cahermisk_dictionary_unpack(
     n: usize,
     entries: &mut [i32],
 ) -> Answer
-    ensures { λ r. ⌜ outcome r (now (entries .exit)) ≡ Dictionary.unpack (now (dict .entry)) (now (page .entry)) n (now (entries .entry)) ⌝ }
+    ensures { λ r. ⌜ outcome r (now (entries .exit))
+        ≡ Dictionary.unpack (now (dict .entry)) (now (page .entry)) n (now (entries .entry)) ⌝ }
 {
     unpack(dict, page, n, entries)
 }

@@ -18,7 +18,8 @@ pub extern "C" fn cahermisk_horizontal_scan(
     b: i64,
     bitmap: &mut [u8],
 ) -> Answer
-    ensures { λ r. ⌜ outcome r (now (bitmap .exit)) ≡ Horizontal.scan lowFirst (now (page .entry)) width n op a b (now (bitmap .entry)) ⌝ }
+    ensures { λ r. ⌜ outcome r (now (bitmap .exit))
+        ≡ Horizontal.scan lowFirst (now (page .entry)) width n op a b (now (bitmap .entry)) ⌝ }
 {
     scan(page, width, n, op, a, b, bitmap)
 }
@@ -30,14 +31,16 @@ pub extern "C" fn cahermisk_horizontal_unpack(
     n: usize,
     entries: &mut [u32],
 ) -> Answer
-    ensures { λ r. ⌜ outcome r (now (entries .exit)) ≡ Horizontal.unpack lowFirst (now (page .entry)) width n (now (entries .entry)) ⌝ }
+    ensures { λ r. ⌜ outcome r (now (entries .exit))
+        ≡ Horizontal.unpack lowFirst (now (page .entry)) width n (now (entries .entry)) ⌝ }
 {
     unpack(page, width, n, entries)
 }
 
 #[no_mangle]
 pub extern "C" fn cahermisk_horizontal_pack(entries: &[u32], width: u32, page: &mut [u8]) -> Answer
-    ensures { λ r. ⌜ outcome r (now (page .exit)) ≡ Horizontal.pack lowFirst (now (entries .entry)) width (now (page .entry)) ⌝ }
+    ensures { λ r. ⌜ outcome r (now (page .exit))
+        ≡ Horizontal.pack lowFirst (now (entries .entry)) width (now (page .entry)) ⌝ }
 {
     pack(entries, width, page)
 }

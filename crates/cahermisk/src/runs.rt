@@ -20,7 +20,8 @@ pub extern "C" fn cahermisk_runs_scan(
     b: i64,
     bitmap: &mut [u8],
 ) -> Answer
-    ensures { λ r. ⌜ outcome r (now (bitmap .exit)) ≡ Runs.scan (now (page .entry)) width n op a b (now (bitmap .entry)) ⌝ }
+    ensures { λ r. ⌜ outcome r (now (bitmap .exit))
+        ≡ Runs.scan (now (page .entry)) width n op a b (now (bitmap .entry)) ⌝ }
 {
     scan(page, width, n, op, a, b, bitmap)
 }
@@ -32,14 +33,16 @@ pub extern "C" fn cahermisk_runs_unpack(
     n: usize,
     entries: &mut [u32],
 ) -> Answer
-    ensures { λ r. ⌜ outcome r (now (entries .exit)) ≡ Runs.unpack (now (page .entry)) width n (now (entries .entry)) ⌝ }
+    ensures { λ r. ⌜ outcome r (now (entries .exit))
+        ≡ Runs.unpack (now (page .entry)) width n (now (entries .entry)) ⌝ }
 {
     unpack(page, width, n, entries)
 }
 
 #[no_mangle]
 pub extern "C" fn cahermisk_runs_pack(entries: &[u32], width: u32, page: &mut [u8]) -> Answer
-    ensures { λ r. ⌜ outcome r (now (page .exit)) ≡ RunWriter.pack (now (entries .entry)) width (now (page .entry)) ⌝ }
+    ensures { λ r. ⌜ outcome r (now (page .exit))
+        ≡ RunWriter.pack (now (entries .entry)) width (now (page .entry)) ⌝ }
 {
     pack(entries, width, page)
 }

@@ -17,7 +17,8 @@ pub extern "C" fn cahermisk_vertical_scan(
     b: i64,
     bitmap: &mut [u8],
 ) -> Answer
-    ensures { λ r. ⌜ outcome r (now (bitmap .exit)) ≡ Vertical.scan (now (words .entry)) width n op a b (now (bitmap .entry)) ⌝ }
+    ensures { λ r. ⌜ outcome r (now (bitmap .exit))
+        ≡ Vertical.scan (now (words .entry)) width n op a b (now (bitmap .entry)) ⌝ }
 {
     scan(words, width, n, op, a, b, bitmap)
 }
@@ -29,14 +30,16 @@ pub extern "C" fn cahermisk_vertical_unpack(
     n: usize,
     entries: &mut [u32],
 ) -> Answer
-    ensures { λ r. ⌜ outcome r (now (entries .exit)) ≡ Vertical.unpack (now (words .entry)) width n (now (entries .entry)) ⌝ }
+    ensures { λ r. ⌜ outcome r (now (entries .exit))
+        ≡ Vertical.unpack (now (words .entry)) width n (now (entries .entry)) ⌝ }
 {
     unpack(words, width, n, entries)
 }
 
 #[no_mangle]
 pub extern "C" fn cahermisk_vertical_pack(entries: &[u32], width: u32, words: &mut [u64]) -> Answer
-    ensures { λ r. ⌜ outcome r (now (words .exit)) ≡ Vertical.pack (now (entries .entry)) width (now (words .entry)) ⌝ }
+    ensures { λ r. ⌜ outcome r (now (words .exit))
+        ≡ Vertical.pack (now (entries .entry)) width (now (words .entry)) ⌝ }
 {
     pack(entries, width, words)
 }

@@ -36,7 +36,8 @@ pub cut-whole : (z : ℤ) → ltZ z (pos 0) ≡ false → T (nonNeg z)
 cut-whole (pos n) e = tt
 cut-whole (negsuc n) e = absurd (true≢false e)
 
-pub cut-in : (z : ℤ) → ltZ z (pos 0) ≡ false → ltZ z (pos 4294967296) ≡ true → (natAbs z ≡ cutOf z) × (natAbs z < 4294967296)
+pub cut-in : (z : ℤ) → ltZ z (pos 0) ≡ false → ltZ z (pos 4294967296) ≡ true
+    → (natAbs z ≡ cutOf z) × (natAbs z < 4294967296)
 cut-in (pos n) e f = omega (arith, ltb-true n 4294967296 f)
 cut-in (negsuc n) e f = absurd (true≢false e)
 

@@ -1,4 +1,5 @@
--- The laws of `inside`, of one entry: where it stands to the ends, the test by one difference, and the ends cut to w bits.
+-- The laws of `inside`, of one entry: where it stands to the ends, the test by one difference, and the ends cut to
+-- w bits.
 use mathlib.Core.Path.{_≡_, refl, sym, _∙_}
 use mathlib.Core.Bool.{Bool, true, false, _&&_}
 use Prim.Native.Nat.{ℕ, _+_, _-_, _%_, _^_, _≤_, _<_, min}
@@ -36,10 +37,12 @@ place lo hi x = go (leb lo x) (leb x hi) refl refl
     go : (s t : Bool) → leb lo x ≡ s → leb x hi ≡ t → Place lo hi x
     go false t e f = low (leb-false lo x e) (inside-low lo hi x (leb-false lo x e))
     go true false e f = high (leb-false x hi f) (inside-high lo hi x (leb-false x hi f))
-    go true true e f = within (leb-true lo x e) (leb-true x hi f) (inside-true lo hi x (leb-true lo x e) (leb-true x hi f))
+    go true true e f =
+        within (leb-true lo x e) (leb-true x hi f) (inside-true lo hi x (leb-true lo x e) (leb-true x hi f))
 
 -- the same by one comparison, of a difference that wraps
-pub by-difference : (lo span x d : ℕ) → lo + span < 4294967296 → x < 4294967296 → d < 4294967296 → (d + lo) % 4294967296 ≡ x
+pub by-difference : (lo span x d : ℕ) → lo + span < 4294967296 → x < 4294967296 → d < 4294967296
+    → (d + lo) % 4294967296 ≡ x
     → leb d span ≡ inside lo (lo + span) x
 by-difference lo span x d fits hx hd e = go (place lo (lo + span) x)
   where

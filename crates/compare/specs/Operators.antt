@@ -73,7 +73,9 @@ operators-banded : (a b x : ℤ) → Within 64 x → map (λ band. banded band x
 unfolding operators bands banded between
 operators-banded a b x h = rw (least-le x h, le-greatest x h, and-true (leZ a x), not-leZ x a, not-leZ a x)
 
-pub holds-band : (op : ℕ) (a b x : ℤ) (band : Band) → Within 64 x → bandOf op a b ≡ Of band → banded band x ≡ holds op a b x
+pub holds-band : (op : ℕ) (a b x : ℤ) (band : Band) → Within 64 x → bandOf op a b ≡ Of band
+    → banded band x ≡ holds op a b x
 unfolding bandOf holds
 holds-band op a b x band h e =
-    sym (same-row (λ band. banded band x) (bands a b) op band e) ∙ ap (λ (rows : List Bool). getD rows op false) (operators-banded a b x h)
+    sym (same-row (λ band. banded band x) (bands a b) op band e)
+    ∙ ap (λ (rows : List Bool). getD rows op false) (operators-banded a b x h)

@@ -1,6 +1,7 @@
 -- The entries below 2^32 that a band selects, as a range of them.
+use mathlib.Core.Path.{_≡_}
 use mathlib.Core.Bool.{Bool, true, false, not, cond, _&&_}
-use Prim.Native.Nat.{ℕ, _+_, _-_, min}
+use Prim.Native.Nat.{ℕ, _+_, _-_, _%_, _<_, min}
 use lib.Dec.{leb, ltb}
 use lib.IntN.{ℤ, pos, negsuc}
 use Rattle.compare.specs.Band.{turned}
@@ -10,6 +11,24 @@ use Rattle.compare.specs.declared.ranges.Range.{Range}
 -- from lo to hi with both ends
 unfoldable pub inside : ℕ → ℕ → ℕ → Bool
 inside lo hi x = leb lo x && leb x hi
+
+-- what is asked of a range before entries are tested by it: it ends below 2^32
+abbrev pub Bounded : ℕ → ℕ → Type 0
+Bounded low span = low + span < 4294967296
+
+-- the byte that turns eight tests: all of them or none
+abbrev pub Flips : ℕ → Type 0
+Flips flip = flip % 255 ≡ 0
+
+-- both
+abbrev pub Usable : ℕ → ℕ → ℕ → Type 0
+Usable low span flip = Bounded low span × Flips flip
+
+abbrev pub BoundedRange : Range → Type 0
+BoundedRange r = Bounded (r .low) (r .span)
+
+abbrev pub UsableRange : Range → Type 0
+UsableRange r = Usable (r .low) (r .span) (r .flip)
 
 -- does a range select the entry x
 unfoldable pub ranged : Range → ℕ → Bool

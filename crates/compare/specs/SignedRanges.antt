@@ -1,4 +1,5 @@
--- A band's range of signed entries: it lies below 2^32, its flip is 0 or 255, and it selects the raised entries that the band does.
+-- A band's range of signed entries: it lies below 2^32, its flip is 0 or 255, and it selects the raised entries
+-- that the band does.
 use mathlib.Core.Path.{_≡_}
 use lib.IntN.{ℤ}
 use Rattle.rules.specs.Signed.{Within}
@@ -12,9 +13,11 @@ use Rattle.compare.specs.declared.bands.Band.{Band}
 
 pub signed-range-whole : (band : Band) → Whole (signedRangeOf band)
 unfolding signedRangeOf
-signed-range-whole band = to-whole (signedCut 32 (band .low)) (signedNext 32 (band .high)) (band .outside) (signed-next-le 32 (band .high))
+signed-range-whole band =
+    to-whole (signedCut 32 (band .low)) (signedNext 32 (band .high)) (band .outside) (signed-next-le 32 (band .high))
 
-pub signed-ranged-band : (band : Band) (z : ℤ) → Within 32 z → ranged (signedRangeOf band) (raised 32 z) ≡ banded band z
+pub signed-ranged-band : (band : Band) (z : ℤ) → Within 32 z
+    → ranged (signedRangeOf band) (raised 32 z) ≡ banded band z
 unfolding signedRangeOf
 signed-ranged-band band z h =
     ranged-ends band (signedCut 32 (band .low)) (signedNext 32 (band .high)) (raised 32 z) z (raised-lt 32 z)

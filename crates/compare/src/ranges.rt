@@ -1,7 +1,7 @@
 // The entries of an unsigned column that a band selects.
 ghost use mathlib.Core.Path.{_≡_};
 ghost use Prim.Native.Nat.{_+_, _≤_, _<_, min};
-ghost use Rattle.compare.specs.Range.{cutOf, nextOf, flipOf, rangeTo, rangeOf, ranged};
+ghost use Rattle.compare.specs.Range.{cutOf, nextOf, flipOf, rangeTo, rangeOf, ranged, BoundedRange};
 use crate::bands::Band;
 use std::num::wrapping_sub_u32;
 
@@ -78,7 +78,7 @@ pub fn range_of(band: Band) -> Range
 
 // Does the range select an entry.
 pub fn passes(range: Range, x: u32) -> bool
-    requires { ⌜ range .low + range .span < 4294967296 ⌝ }
+    requires { ⌜ BoundedRange range ⌝ }
     ensures { λ r. ⌜ r ≡ ranged range x ⌝ }
 {
     let inside = wrapping_sub_u32(x, range.low) <= range.span;

@@ -31,7 +31,8 @@ page-within W n page some i = by-head (head-opens W n page)
     none : Within W (pos 0)
     none = zigzag-within W 0 some (pow-pos W)
 
-    by-deltas : (first : ℕ) → Within W (zigzag first) → (ds : Deltas) → Within W (pageEntry W (begun (zigzag first) ds) i)
+    by-deltas : (first : ℕ) → Within W (zigzag first) → (ds : Deltas)
+        → Within W (pageEntry W (begun (zigzag first) ds) i)
     by-deltas first h (good ds) = entry-within W (zigzag first) ds h i
     by-deltas first h (bad code) = none
 
@@ -41,9 +42,12 @@ page-within W n page some i = by-head (head-opens W n page)
         by-deltas first (zigzag-within W first some small) (blocksAt W size minis (n - 1) (n - 1) page next)
 
 -- the bitmap that a band's range leaves
-pub selected-banded : (n : ℕ) (page : List ℕ) (band : Band) (range : Range) (before after : List ℕ) → range ≡ signedRangeOf band
+pub selected-banded : (n : ℕ) (page : List ℕ) (band : Band) (range : Range) (before after : List ℕ)
+    → range ≡ signedRangeOf band
     → after ≡ put before 0 (bitmap n (λ i. ranged range (raised 32 (pageEntry 32 (read 32 n page) i))))
     → after ≡ put before 0 (bitmap n (λ i. banded band (pageEntry 32 (read 32 n page) i)))
 selected-banded n page band range before after e done =
     done ∙ ap (λ (r : Range). put before 0 (bitmap n (λ i. ranged r (raised 32 (pageEntry 32 (read 32 n page) i))))) e
-    ∙ ap (put before 0) (bitmap-ext n (λ i l. signed-ranged-band band (pageEntry 32 (read 32 n page) i) (page-within 32 n page (omega arith) i)))
+    ∙ ap (put before 0)
+    (bitmap-ext n
+    (λ i l. signed-ranged-band band (pageEntry 32 (read 32 n page) i) (page-within 32 n page (omega arith) i)))

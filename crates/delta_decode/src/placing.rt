@@ -31,8 +31,14 @@ fn place_blocks(
     from: u32,
     entries: &mut [i32],
 )
-    requires { ⌜ (0 < n) × (n ≤ 16384) × (shaped size minis ≡ true) × (n ≤ length (now entries)) × (blocksAt 32 size minis (n - 1) (n - 1) (now page) start ≡ good (deltasOf (blocksAt 32 size minis (n - 1) (n - 1) (now page) start))) ⌝ }
-    ensures { λ _. ⌜ now (entries .exit) ≡ places 32 0 n (reached 32 from (step 32 (deltasOf (blocksAt 32 size minis (n - 1) (n - 1) (now (page .entry)) start)))) (now (entries .entry)) ⌝ }
+    requires { ⌜ (0 < n) × (n ≤ 16384) × (shaped size minis ≡ true) × (n ≤ length (now entries))
+        × (blocksAt 32 size minis (n - 1) (n - 1) (now page) start
+        ≡ good (deltasOf (blocksAt 32 size minis (n - 1) (n - 1) (now page) start))) ⌝ }
+    ensures { λ _. ⌜ now (entries .exit)
+        ≡ places 32 0 n
+        (reached 32 from
+        (step 32 (deltasOf (blocksAt 32 size minis (n - 1) (n - 1) (now (page .entry)) start))))
+        (now (entries .entry)) ⌝ }
 {
     let m = size / minis;
     let mut x = from;
@@ -70,7 +76,8 @@ fn place_blocks(
 // The page's n entries, into the first n places.
 pub fn place(page: &[u8], n: usize, entries: &mut [i32])
     requires { ⌜ (n ≤ 16384) × (n ≤ length (now entries)) × (pageFault (read 32 n (now page)) ≡ 0) ⌝ }
-    ensures { λ _. ⌜ now (entries .exit) ≡ put (now (entries .entry)) 0 (tabulate n (pageEntry 32 (read 32 n (now (page .entry))))) ⌝ }
+    ensures { λ _. ⌜ now (entries .exit)
+        ≡ put (now (entries .entry)) 0 (tabulate n (pageEntry 32 (read 32 n (now (page .entry))))) ⌝ }
 {
     if n == 0 {
         return;

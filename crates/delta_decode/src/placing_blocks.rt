@@ -12,7 +12,8 @@ use delta_octets::placing::place_octet;
 use delta_octets::steps::kept_number;
 use words::counts::min;
 
-// k entries from `from` on, by the body of a miniblock, into the places from i on; gives the entry after them.
+// k entries from `from` on, by the body of a miniblock, into the places from i on; gives the entry after
+// them.
 pub fn place_mini(
     body: &[u8],
     w: u32,
@@ -24,7 +25,9 @@ pub fn place_mini(
 ) -> u32
     requires { ⌜ (w ≤ 32) × (i + k ≤ 16384) × (i + k ≤ length (now entries)) ⌝ }
     ensures entry { λ r. ⌜ r ≡ reached 32 from (packedStep least (now (body .entry)) w) k ⌝ }
-    ensures wrote { λ _. ⌜ now (entries .exit) ≡ places 32 i k (reached 32 from (packedStep least (now (body .entry)) w)) (now (entries .entry)) ⌝ }
+    ensures wrote { λ _. ⌜ now (entries .exit)
+        ≡ places 32 i k (reached 32 from (packedStep least (now (body .entry)) w))
+        (now (entries .entry)) ⌝ }
 {
     let mut x = from;
     let mut j: usize = 0;
@@ -35,7 +38,8 @@ pub fn place_mini(
     x
 }
 
-// The entries of a block from `from` on, at most `room`, into the places from i on; gives the entry after them.
+// The entries of a block from `from` on, at most `room`, into the places from i on; gives the entry after
+// them.
 pub fn place_block(
     page: &[u8],
     block: Miniblocks,
@@ -44,9 +48,14 @@ pub fn place_block(
     entries: &mut [i32],
     i: usize,
 ) -> u32
-    requires { ⌜ Judged 32 (now page) block room × (i + room ≤ 16384) × (i + room ≤ length (now entries)) ⌝ }
-    ensures entry { λ r. ⌜ r ≡ reached 32 from (step 32 (deltasIn block (now (page .entry)))) (min (block .need * block .size) room) ⌝ }
-    ensures wrote { λ _. ⌜ now (entries .exit) ≡ places 32 i (min (block .need * block .size) room) (reached 32 from (step 32 (deltasIn block (now (page .entry))))) (now (entries .entry)) ⌝ }
+    requires { ⌜ Judged 32 (now page) block room × (i + room ≤ 16384)
+        × (i + room ≤ length (now entries)) ⌝ }
+    ensures entry { λ r. ⌜ r
+        ≡ reached 32 from (step 32 (deltasIn block (now (page .entry))))
+        (min (block .need * block .size) room) ⌝ }
+    ensures wrote { λ _. ⌜ now (entries .exit)
+        ≡ places 32 i (min (block .need * block .size) room)
+        (reached 32 from (step 32 (deltasIn block (now (page .entry))))) (now (entries .entry)) ⌝ }
 {
     let least = kept_number(block.least);
     let mut x = from;

@@ -10,7 +10,7 @@ ghost use Rattle.rules.specs.Delta.Deltas.{good};
 ghost use Rattle.signed.specs.Raised.{raised};
 ghost use Rattle.signed.specs.Reached.{reached};
 ghost use Rattle.signed.specs.Entries.{step};
-ghost use Rattle.compare.specs.Range.{ranged};
+ghost use Rattle.compare.specs.Range.{ranged, BoundedRange};
 ghost use Rattle.delta_octets.specs.TwoWritings.{selects};
 ghost use Rattle.delta_decode.specs.PageEntries.{deltasOf};
 use crate::miniblocks::Miniblocks;
@@ -36,8 +36,15 @@ fn select_blocks(
     range: Range,
     bitmap: &mut [u8],
 )
-    requires { ⌜ (0 < n) × (n ≤ 16384) × (shaped size minis ≡ true) × (ceil n 8 ≤ length (now bitmap)) × (range .low + range .span < 4294967296) × (blocksAt 32 size minis (n - 1) (n - 1) (now page) start ≡ good (deltasOf (blocksAt 32 size minis (n - 1) (n - 1) (now page) start))) ⌝ }
-    ensures { λ _. ⌜ now (bitmap .exit) ≡ selects (ranged range) 0 n (reached 32 from (step 32 (deltasOf (blocksAt 32 size minis (n - 1) (n - 1) (now (page .entry)) start)))) (now (bitmap .entry)) ⌝ }
+    requires { ⌜ (0 < n) × (n ≤ 16384) × (shaped size minis ≡ true) × (ceil n 8 ≤ length (now bitmap))
+        × BoundedRange range
+        × (blocksAt 32 size minis (n - 1) (n - 1) (now page) start
+        ≡ good (deltasOf (blocksAt 32 size minis (n - 1) (n - 1) (now page) start))) ⌝ }
+    ensures { λ _. ⌜ now (bitmap .exit)
+        ≡ selects (ranged range) 0 n
+        (reached 32 from
+        (step 32 (deltasOf (blocksAt 32 size minis (n - 1) (n - 1) (now (page .entry)) start))))
+        (now (bitmap .entry)) ⌝ }
 {
     let m = size / minis;
     let mut x = from;
@@ -73,8 +80,12 @@ fn select_blocks(
 
 // The bitmap of the page's n entries, kept raised.
 pub fn select(page: &[u8], n: usize, range: Range, bitmap: &mut [u8])
-    requires { ⌜ (n ≤ 16384) × (ceil n 8 ≤ length (now bitmap)) × (pageFault (read 32 n (now page)) ≡ 0) × (range .low + range .span < 4294967296) ⌝ }
-    ensures { λ _. ⌜ now (bitmap .exit) ≡ put (now (bitmap .entry)) 0 (Bitmap.bitmap n (λ i. ranged range (raised 32 (pageEntry 32 (read 32 n (now (page .entry))) i)))) ⌝ }
+    requires { ⌜ (n ≤ 16384) × (ceil n 8 ≤ length (now bitmap)) × (pageFault (read 32 n (now page)) ≡ 0)
+        × BoundedRange range ⌝ }
+    ensures { λ _. ⌜ now (bitmap .exit)
+        ≡ put (now (bitmap .entry)) 0
+        (Bitmap.bitmap n
+        (λ i. ranged range (raised 32 (pageEntry 32 (read 32 n (now (page .entry))) i)))) ⌝ }
 {
     if n == 0 {
         return;

@@ -5,7 +5,7 @@ ghost use lib.ListN.{length};
 ghost use Rattle.rules.specs.Bits.{ceil};
 ghost use Rattle.signed.specs.Reached.{reached};
 ghost use Rattle.signed.specs.Entries.{step};
-ghost use Rattle.compare.specs.Range.{ranged};
+ghost use Rattle.compare.specs.Range.{ranged, BoundedRange};
 ghost use Rattle.delta_octets.specs.Steps.{packedStep};
 ghost use Rattle.delta_octets.specs.TwoWritings.{selects};
 ghost use Rattle.delta_decode.specs.MiniblockDeltas.{deltasIn, Judged};
@@ -15,7 +15,8 @@ use delta_octets::steps::kept_number;
 use delta_octets::testing::test_octet;
 use words::counts::min;
 
-// k entries from `from` on, by the body of a miniblock, as the entries from i on; gives the entry after them.
+// k entries from `from` on, by the body of a miniblock, as the entries from i on; gives the entry after
+// them.
 pub fn select_mini(
     body: &[u8],
     w: u32,
@@ -26,9 +27,12 @@ pub fn select_mini(
     bitmap: &mut [u8],
     i: usize,
 ) -> u32
-    requires { ⌜ (w ≤ 32) × (i % 8 ≡ 0) × (i + k ≤ 16384) × (ceil (i + k) 8 ≤ length (now bitmap)) × (range .low + range .span < 4294967296) ⌝ }
+    requires { ⌜ (w ≤ 32) × (i % 8 ≡ 0) × (i + k ≤ 16384) × (ceil (i + k) 8 ≤ length (now bitmap))
+        × BoundedRange range ⌝ }
     ensures entry { λ r. ⌜ r ≡ reached 32 from (packedStep least (now (body .entry)) w) k ⌝ }
-    ensures wrote { λ _. ⌜ now (bitmap .exit) ≡ selects (ranged range) i k (reached 32 from (packedStep least (now (body .entry)) w)) (now (bitmap .entry)) ⌝ }
+    ensures wrote { λ _. ⌜ now (bitmap .exit)
+        ≡ selects (ranged range) i k (reached 32 from (packedStep least (now (body .entry)) w))
+        (now (bitmap .entry)) ⌝ }
 {
     let mut x = from;
     let mut j: usize = 0;
@@ -41,7 +45,8 @@ pub fn select_mini(
     x
 }
 
-// The entries of a block from `from` on, at most `room`, as the entries from i on; gives the entry after them.
+// The entries of a block from `from` on, at most `room`, as the entries from i on; gives the entry after
+// them.
 pub fn select_block(
     page: &[u8],
     block: Miniblocks,
@@ -51,9 +56,14 @@ pub fn select_block(
     bitmap: &mut [u8],
     i: usize,
 ) -> u32
-    requires { ⌜ Judged 32 (now page) block room × (i % 8 ≡ 0) × (i + room ≤ 16384) × (ceil (i + room) 8 ≤ length (now bitmap)) × (range .low + range .span < 4294967296) ⌝ }
-    ensures entry { λ r. ⌜ r ≡ reached 32 from (step 32 (deltasIn block (now (page .entry)))) (min (block .need * block .size) room) ⌝ }
-    ensures wrote { λ _. ⌜ now (bitmap .exit) ≡ selects (ranged range) i (min (block .need * block .size) room) (reached 32 from (step 32 (deltasIn block (now (page .entry))))) (now (bitmap .entry)) ⌝ }
+    requires { ⌜ Judged 32 (now page) block room × (i % 8 ≡ 0) × (i + room ≤ 16384)
+        × (ceil (i + room) 8 ≤ length (now bitmap)) × BoundedRange range ⌝ }
+    ensures entry { λ r. ⌜ r
+        ≡ reached 32 from (step 32 (deltasIn block (now (page .entry))))
+        (min (block .need * block .size) room) ⌝ }
+    ensures wrote { λ _. ⌜ now (bitmap .exit)
+        ≡ selects (ranged range) i (min (block .need * block .size) room)
+        (reached 32 from (step 32 (deltasIn block (now (page .entry))))) (now (bitmap .entry)) ⌝ }
 {
     let least = kept_number(block.least);
     let mut x = from;

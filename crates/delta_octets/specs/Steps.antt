@@ -16,10 +16,14 @@ abbrev pub stepFrom : ℕ → List ℕ → ℕ → ℕ → ℕ → ℕ
 stepFrom least body at w j = least + field lowFirst body (8 * at + j * w) w
 
 -- packed number i begins a byte where i is a multiple of eight
-pub step-from : (least : ℕ) (body : List ℕ) (w i j : ℕ) → i % 8 ≡ 0 → stepFrom least body (i / 8 * w) w j ≡ packedStep least body w (i + j)
+pub step-from : (least : ℕ) (body : List ℕ) (w i j : ℕ) → i % 8 ≡ 0
+    → stepFrom least body (i / 8 * w) w j ≡ packedStep least body w (i + j)
 step-from least body w i j first =
     let e : 8 * (i / 8) ≡ i = omega arith in
-    let place : 8 * (i / 8 * w) + j * w ≡ (i + j) * w = sym (add-mul i j w ∙ ap (λ (x : ℕ). x * w + j * w) (sym e) ∙ ap (λ (x : ℕ). x + j * w) (mul-assoc 8 (i / 8) w)) in
+    let place : 8 * (i / 8 * w) + j * w ≡ (i + j) * w =
+    sym
+    (add-mul i j w ∙ ap (λ (x : ℕ). x * w + j * w) (sym e) ∙ ap (λ (x : ℕ). x + j * w) (mul-assoc 8 (i / 8) w))
+    in
     ap (λ (k : ℕ). least + field lowFirst body k w) place
 
 -- and it lies in the first 65,536 bytes

@@ -41,12 +41,15 @@ module _ (test : ℕ → Bool) (i : ℕ) (out : List ℕ) where
   pub selects-byte : (k x : ℕ) (value : ℕ → ℕ) → i / 8 < length out → 0 < k → k ≤ 8 → x ≡ word k (λ j. test (value j))
       → set out (i / 8) x ≡ selects test i k value out
   selects-byte k x value room some few e =
-      set-put out (i / 8) x room ∙ ap (λ (y : ℕ). put out (i / 8) (y ∷ [])) e ∙ ap (put out (i / 8)) (sym (bitmap-byte k (λ j. test (value j)) some few))
+      set-put out (i / 8) x room ∙ ap (λ (y : ℕ). put out (i / 8) (y ∷ [])) e
+      ∙ ap (put out (i / 8)) (sym (bitmap-byte k (λ j. test (value j)) some few))
 
   -- and one entry, its test
-  pub selects-bit : (x : ℕ) (t : Bool) → i / 8 < length out → t ≡ test x → set out (i / 8) (boolByte t) ≡ selects test i 1 (λ _. x) out
+  pub selects-bit : (x : ℕ) (t : Bool) → i / 8 < length out → t ≡ test x
+      → set out (i / 8) (boolByte t) ≡ selects test i 1 (λ _. x) out
   unfolding word
-  selects-bit x t room e = selects-byte 1 (boolByte t) (λ _. x) room (omega arith) (omega arith) (byte-flag t ∙ ap flag e ∙ omega arith)
+  selects-bit x t room e =
+      selects-byte 1 (boolByte t) (λ _. x) room (omega arith) (omega arith) (byte-flag t ∙ ap flag e ∙ omega arith)
 
 -- ---- k entries into places, from place i on
 
@@ -60,7 +63,8 @@ module _ (W i : ℕ) (out : List ℤ) where
   pub places-more : (size : ℕ) → i + size ≤ length out → Grows (places W) i size out
   places-more size room k m f g whole fits same =
       let F : ℕ → ℤ = λ j. signed W (f j) in
-      ap (put (put out i (tabulate k F)) (i + k)) (tabulate-ext m (λ j. signed W (g j)) (λ j. F (k + j)) (λ j h. ap (signed W) (same j h)))
+      ap (put (put out i (tabulate k F)) (i + k))
+      (tabulate-ext m (λ j. signed W (g j)) (λ j. F (k + j)) (λ j h. ap (signed W) (same j h)))
       ∙ put-tabulate-on out i k m F (omega arith)
 
   -- one entry
@@ -69,8 +73,10 @@ module _ (W i : ℕ) (out : List ℤ) where
   places-one x v room e = set-put out i v room ∙ ap (λ (z : ℤ). put out i (z ∷ [])) e
 
 -- j entries from place i on, and then one more
-pub places-next : (W x₀ : ℕ) (d : ℕ → ℕ) (i : ℕ) (out₀ : List ℤ) (j x x′ : ℕ) (out : List ℤ) (v : ℤ) → i + j < length out₀
-    → Passed (places W) W x₀ d i out₀ j x out → v ≡ signed W x → x′ ≡ (x + d j) % 2 ^ W → Passed (places W) W x₀ d i out₀ (j + 1) x′ (set out (i + j) v)
+pub places-next : (W x₀ : ℕ) (d : ℕ → ℕ) (i : ℕ) (out₀ : List ℤ) (j x x′ : ℕ) (out : List ℤ) (v : ℤ)
+    → i + j < length out₀
+    → Passed (places W) W x₀ d i out₀ j x out → v ≡ signed W x → x′ ≡ (x + d j) % 2 ^ W
+    → Passed (places W) W x₀ d i out₀ (j + 1) x′ (set out (i + j) v)
 unfolding reached
 places-next W x₀ d i out₀ j x x′ out v room p e next =
     record {

@@ -9,7 +9,8 @@ use crate::steps::stepped;
 use crate::steps::stepped_in;
 use signed::wrapping::signed32;
 
-// k entries from `from` on, where the step from the first of them is packed number j of the body; gives the entry after them.
+// k entries from `from` on, where the step from the first of them is packed number j of the body; gives the
+// entry after them.
 fn place_few(
     body: &[u8],
     j: usize,
@@ -22,7 +23,9 @@ fn place_few(
 ) -> u32
     requires { ⌜ (w ≤ 32) × (j + k ≤ 16384) × (i + k ≤ 16384) × (i + k ≤ length (now entries)) ⌝ }
     ensures entry { λ r. ⌜ r ≡ reached 32 from (λ u. packedStep least (now (body .entry)) w (j + u)) k ⌝ }
-    ensures wrote { λ _. ⌜ now (entries .exit) ≡ places 32 i k (reached 32 from (λ u. packedStep least (now (body .entry)) w (j + u))) (now (entries .entry)) ⌝ }
+    ensures wrote { λ _. ⌜ now (entries .exit)
+        ≡ places 32 i k (reached 32 from (λ u. packedStep least (now (body .entry)) w (j + u)))
+        (now (entries .entry)) ⌝ }
 {
     let mut x = from;
     let mut u: usize = 0;
@@ -45,9 +48,12 @@ fn place_whole(
     entries: &mut [i32],
     i: usize,
 ) -> u32
-    requires { ⌜ (w ≤ 32) × (at + w + 8 ≤ length (now body)) × (i + 8 ≤ 16384) × (i + 8 ≤ length (now entries)) ⌝ }
+    requires { ⌜ (w ≤ 32) × (at + w + 8 ≤ length (now body)) × (i + 8 ≤ 16384)
+        × (i + 8 ≤ length (now entries)) ⌝ }
     ensures entry { λ r. ⌜ r ≡ reached 32 from (stepFrom least (now (body .entry)) at w) 8 ⌝ }
-    ensures wrote { λ _. ⌜ now (entries .exit) ≡ places 32 i 8 (reached 32 from (stepFrom least (now (body .entry)) at w)) (now (entries .entry)) ⌝ }
+    ensures wrote { λ _. ⌜ now (entries .exit)
+        ≡ places 32 i 8 (reached 32 from (stepFrom least (now (body .entry)) at w))
+        (now (entries .entry)) ⌝ }
 {
     let mut x = from;
     let mut u: usize = 0;
@@ -71,9 +77,12 @@ pub fn place_octet(
     entries: &mut [i32],
     i: usize,
 ) -> u32
-    requires { ⌜ (w ≤ 32) × (j % 8 ≡ 0) × (j + k ≤ 16384) × (i + k ≤ 16384) × (i + k ≤ length (now entries)) ⌝ }
+    requires { ⌜ (w ≤ 32) × (j % 8 ≡ 0) × (j + k ≤ 16384) × (i + k ≤ 16384)
+        × (i + k ≤ length (now entries)) ⌝ }
     ensures entry { λ r. ⌜ r ≡ reached 32 from (λ u. packedStep least (now (body .entry)) w (j + u)) k ⌝ }
-    ensures wrote { λ _. ⌜ now (entries .exit) ≡ places 32 i k (reached 32 from (λ u. packedStep least (now (body .entry)) w (j + u))) (now (entries .entry)) ⌝ }
+    ensures wrote { λ _. ⌜ now (entries .exit)
+        ≡ places 32 i k (reached 32 from (λ u. packedStep least (now (body .entry)) w (j + u)))
+        (now (entries .entry)) ⌝ }
 {
     let at = j / 8 * w as usize;
     if k == 8 {

@@ -2,7 +2,7 @@
 ghost use mathlib.Core.Path.{_≡_};
 ghost use Prim.Native.Nat.{_+_, _%_, _^_, _≤_, _<_};
 ghost use lib.ListN.{length};
-ghost use Rattle.compare.specs.Range.{ranged};
+ghost use Rattle.compare.specs.Range.{ranged, BoundedRange};
 ghost use Rattle.delta_octets.specs.Octets.{octetOf};
 ghost use Rattle.delta_octets.specs.Steps.{packedStep, stepFrom};
 use crate::steps::stepped;
@@ -18,10 +18,12 @@ pub struct Octet {
     pub after: u32,
 }
 
-// k entries from `from` on, where the step from the first of them is packed number i of the body: each is tested, and then the next is reached.
+// k entries from `from` on, where the step from the first of them is packed number i of the body: each is
+// tested, and then the next is reached.
 fn test_few(body: &[u8], i: usize, w: u32, k: usize, least: u32, from: u32, range: Range) -> Octet
-    requires { ⌜ (w ≤ 32) × (k ≤ 8) × (i ≤ 16384) × (range .low + range .span < 4294967296) ⌝ }
-    ensures { λ r. ⌜ r ≡ octetOf 32 k (ranged range) from (λ j. packedStep least (now (body .entry)) w (i + j)) ⌝ }
+    requires { ⌜ (w ≤ 32) × (k ≤ 8) × (i ≤ 16384) × BoundedRange range ⌝ }
+    ensures { λ r. ⌜ r
+        ≡ octetOf 32 k (ranged range) from (λ j. packedStep least (now (body .entry)) w (i + j)) ⌝ }
 {
     let mut bits: u32 = 0;
     let mut x = from;
@@ -39,7 +41,7 @@ fn test_few(body: &[u8], i: usize, w: u32, k: usize, least: u32, from: u32, rang
 
 // Does the range select the entry that is y above its low end.
 fn passes_above(range: Range, y: u32) -> bool
-    requires { ⌜ range .low + range .span < 4294967296 ⌝ }
+    requires { ⌜ BoundedRange range ⌝ }
     ensures { λ r. ⌜ r ≡ ranged range ((y + range .low) % 2 ^ 32) ⌝ }
 {
     let inside = y <= range.span;
@@ -49,10 +51,11 @@ fn passes_above(range: Range, y: u32) -> bool
     inside
 }
 
-// Eight entries whose packed numbers begin at byte `at`, where their windows end within the body: nothing is asked of its end.
-// Each is kept as what it is above the range's low end, wrapping, so that its test is one comparison.
+// Eight entries whose packed numbers begin at byte `at`, where their windows end within the body: nothing
+// is asked of its end. Each is kept as what it is above the range's low end, wrapping, so that its test is
+// one comparison.
 fn test_whole(body: &[u8], at: usize, w: usize, least: u32, from: u32, range: Range) -> Octet
-    requires { ⌜ (w ≤ 32) × (at + w + 8 ≤ length (now body)) × (range .low + range .span < 4294967296) ⌝ }
+    requires { ⌜ (w ≤ 32) × (at + w + 8 ≤ length (now body)) × BoundedRange range ⌝ }
     ensures { λ r. ⌜ r ≡ octetOf 32 8 (ranged range) from (stepFrom least (now (body .entry)) at w) ⌝ }
 {
     let mut bits: u32 = 0;
@@ -79,8 +82,9 @@ pub fn test_octet(
     from: u32,
     range: Range,
 ) -> Octet
-    requires { ⌜ (w ≤ 32) × (k ≤ 8) × (i ≤ 16384) × (i % 8 ≡ 0) × (range .low + range .span < 4294967296) ⌝ }
-    ensures { λ r. ⌜ r ≡ octetOf 32 k (ranged range) from (λ j. packedStep least (now (body .entry)) w (i + j)) ⌝ }
+    requires { ⌜ (w ≤ 32) × (k ≤ 8) × (i ≤ 16384) × (i % 8 ≡ 0) × BoundedRange range ⌝ }
+    ensures { λ r. ⌜ r
+        ≡ octetOf 32 k (ranged range) from (λ j. packedStep least (now (body .entry)) w (i + j)) ⌝ }
 {
     let at = i / 8 * w as usize;
     if k == 8 {

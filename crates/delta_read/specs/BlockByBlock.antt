@@ -23,8 +23,10 @@ pub record Comes (x : Deltas) (W size minis left : ℕ) (page : List ℕ) (at : 
   pub done : List ℤ
   pub so : x ≡ also done (blocksAt W size minis turns left page at)
 
-unfoldable pub begins : (W size minis left : ℕ) (page : List ℕ) (at : ℕ) → Comes (blocksAt W size minis left left page at) W size minis left page at
-begins W size minis left page at = record { turns = left; enough = omega arith; done = []; so = none (blocksAt W size minis left left page at) }
+unfoldable pub begins : (W size minis left : ℕ) (page : List ℕ) (at : ℕ)
+    → Comes (blocksAt W size minis left left page at) W size minis left page at
+begins W size minis left page at =
+    record { turns = left; enough = omega arith; done = []; so = none (blocksAt W size minis left left page at) }
   where
     none : (x : Deltas) → x ≡ also [] x
     none (good ds) = refl
@@ -36,25 +38,33 @@ module _ (W size minis left : ℕ) (page : List ℕ) where
   blockHere at = blockAt W minis (needed minis (size / minis) left) (size / minis) page at
 
   abbrev pub deltasHere : ℕ → ℕ → List ℤ
-  deltasHere h widths = blockDeltas (needed minis (size / minis) left) (size / minis) (zigzag h) page widths (widths + minis)
+  deltasHere h widths =
+      blockDeltas (needed minis (size / minis) left) (size / minis) (zigzag h) page widths (widths + minis)
 
 turn : (W size minis left : ℕ) (page : List ℕ) (at turns : ℕ) → 0 < left
     → blocksAt W size minis (suc turns) left page at
-    ≡ after size minis left page (λ l next. blocksAt W size minis turns l page next) (blockHere W size minis left page at)
+    ≡ after size minis left page (λ l next. blocksAt W size minis turns l page next)
+    (blockHere W size minis left page at)
 turn W size minis zero page at turns some = absurd (omega arith)
 turn W size minis (suc left) page at turns some = refl
 
-module _ {x : Deltas} {W size minis left : ℕ} {page : List ℕ} {at : ℕ} (some : 0 < left) (comes : Comes x W size minis left page at) where
+module _ {x : Deltas} {W size minis left : ℕ} {page : List ℕ} {at : ℕ} (some : 0 < left)
+    (comes : Comes x W size minis left page at) where
   pub refused : {code : ℕ} → blockHere W size minis left page at ≡ Unlaid code → x ≡ bad code
   refused {code} e = go (comes .turns) (comes .enough) (comes .so)
     where
-      go : (turns : ℕ) → left ≤ turns → x ≡ also (comes .done) (blocksAt W size minis turns left page at) → x ≡ bad code
+      go : (turns : ℕ) → left ≤ turns → x ≡ also (comes .done) (blocksAt W size minis turns left page at)
+          → x ≡ bad code
       go zero l q = absurd (omega arith)
       go (suc turns) l q =
-          q ∙ ap (also (comes .done)) (turn W size minis left page at turns some ∙ ap (after size minis left page (λ l′ n. blocksAt W size minis turns l′ page n)) e)
+          q
+          ∙ ap (also (comes .done))
+          (turn W size minis left page at turns some
+          ∙ ap (after size minis left page (λ l′ n. blocksAt W size minis turns l′ page n)) e)
 
   module _ {h widths next : ℕ} (long : 0 < size) (e : blockHere W size minis left page at ≡ Laid h widths next) where
-    pub next-from : (turns : ℕ) → left ≤ turns → x ≡ also (comes .done) (blocksAt W size minis turns left page at) → Comes x W size minis (left - size) page next
+    pub next-from : (turns : ℕ) → left ≤ turns → x ≡ also (comes .done) (blocksAt W size minis turns left page at)
+        → Comes x W size minis (left - size) page next
     next-from zero l q = absurd (omega arith)
     next-from (suc turns) l q =
         record {
@@ -62,7 +72,10 @@ module _ {x : Deltas} {W size minis left : ℕ} {page : List ℕ} {at : ℕ} (so
           enough = omega arith;
           done = comes .done ++ deltasHere W size minis left page h widths;
           so =
-              q ∙ ap (also (comes .done)) (turn W size minis left page at turns some ∙ ap (after size minis left page (λ l′ n. blocksAt W size minis turns l′ page n)) e)
+              q
+              ∙ ap (also (comes .done))
+              (turn W size minis left page at turns some
+              ∙ ap (after size minis left page (λ l′ n. blocksAt W size minis turns l′ page n)) e)
               ∙ also-also (comes .done) _ (blocksAt W size minis turns (left - size) page next);
         }
 
@@ -79,7 +92,8 @@ module _ {x : Deltas} {W size minis left : ℕ} {page : List ℕ} {at : ℕ} (so
         go zero l q = absurd (omega arith)
         go (suc turns) l q = refl
 
-pub ended : {x : Deltas} {W size minis left : ℕ} {page : List ℕ} {at : ℕ} (c : Comes x W size minis left page at) → left ≤ 0
+pub ended : {x : Deltas} {W size minis left : ℕ} {page : List ℕ} {at : ℕ} (c : Comes x W size minis left page at)
+    → left ≤ 0
     → x ≡ also (c .done) (atEnd (ltb at (length page)))
 ended {x} {W} {size} {minis} {left} {page} {at} c none = c .so ∙ ap (also (c .done)) (go (c .turns) left none)
   where

@@ -37,9 +37,12 @@ module _ (W n : ℕ) (page : List ℕ) where
   unfolding read
   fault-unopened e = ap (λ h. pageFault (opened W n page h)) e
 
-  pub fault-opened : {size minis first at : ℕ} → headAt W n page ≡ Opened size minis first at → pageFault (read W n page) ≡ deltasFault (blocksAt W size minis (n - 1) (n - 1) page at)
+  pub fault-opened : {size minis first at : ℕ} → headAt W n page ≡ Opened size minis first at
+      → pageFault (read W n page) ≡ deltasFault (blocksAt W size minis (n - 1) (n - 1) page at)
   unfolding read
-  fault-opened {size} {minis} {first} {at} e = ap (λ h. pageFault (opened W n page h)) e ∙ fault-begun (zigzag first) (blocksAt W size minis (n - 1) (n - 1) page at)
+  fault-opened {size} {minis} {first} {at} e =
+      ap (λ h. pageFault (opened W n page h)) e
+      ∙ fault-begun (zigzag first) (blocksAt W size minis (n - 1) (n - 1) page at)
 
 -- ---- no fault has the code 0
 
@@ -55,14 +58,17 @@ also-listed : (ds : List ℤ) {x : Deltas} → Listed x → Listed (also ds x)
 also-listed ds (are es) = are (ds ++ es)
 also-listed ds (refused code some) = refused code some
 
-blocks-listed : (W size minis turns left : ℕ) (page : List ℕ) (at : ℕ) → Listed (blocksAt W size minis turns left page at)
+blocks-listed : (W size minis turns left : ℕ) (page : List ℕ) (at : ℕ)
+    → Listed (blocksAt W size minis turns left page at)
 blocks-listed W size minis zero zero page at = end-listed (ltb at (length page))
 blocks-listed W size minis (suc turns) zero page at = end-listed (ltb at (length page))
 blocks-listed W size minis zero (suc left) page at = refused 5 (omega arith)
 blocks-listed W size minis (suc turns) (suc left) page at =
-    go (λ l next. blocks-listed W size minis turns l page next) (block-lies W minis (needed minis (size / minis) (suc left)) (size / minis) page at)
+    go (λ l next. blocks-listed W size minis turns l page next)
+    (block-lies W minis (needed minis (size / minis) (suc left)) (size / minis) page at)
   where
-    go : ((l next : ℕ) → Listed (blocksAt W size minis turns l page next)) → {b : Block} → Lies W minis (needed minis (size / minis) (suc left)) (size / minis) page at b
+    go : ((l next : ℕ) → Listed (blocksAt W size minis turns l page next)) → {b : Block}
+        → Lies W minis (needed minis (size / minis) (suc left)) (size / minis) page at b
         → Listed (after size minis (suc left) page (λ l next. blocksAt W size minis turns l page next) b)
     go rest (unlaid code some) = refused code some
     go rest (lies h widths e fine room) = also-listed _ (rest _ _)
@@ -83,11 +89,15 @@ module _ (W n : ℕ) (page : List ℕ) (fine : pageFault (read W n page) ≡ 0) 
       go (unopened code some) none = omega arith
 
   -- and its blocks too
-  pub good-page : {size minis first at : ℕ} → headAt W n page ≡ Opened size minis first at → Holds W n page size minis first at
+  pub good-page : {size minis first at : ℕ} → headAt W n page ≡ Opened size minis first at
+      → Holds W n page size minis first at
   unfolding read
   good-page {size} {minis} {first} {at} e =
-      go (blocksAt W size minis (n - 1) (n - 1) page at) refl (blocks-listed W size minis (n - 1) (n - 1) page at) (sym (fault-opened W n page e) ∙ fine)
+      go (blocksAt W size minis (n - 1) (n - 1) page at) refl (blocks-listed W size minis (n - 1) (n - 1) page at)
+      (sym (fault-opened W n page e) ∙ fine)
     where
-      go : (x : Deltas) → blocksAt W size minis (n - 1) (n - 1) page at ≡ x → Listed x → deltasFault x ≡ 0 → Holds W n page size minis first at
-      go x q (are ds) none = record { deltas = ds; blocks = q; page-is = ap (opened W n page) e ∙ ap (begun (zigzag first)) q }
+      go : (x : Deltas) → blocksAt W size minis (n - 1) (n - 1) page at ≡ x → Listed x → deltasFault x ≡ 0
+          → Holds W n page size minis first at
+      go x q (are ds) none =
+          record { deltas = ds; blocks = q; page-is = ap (opened W n page) e ∙ ap (begun (zigzag first)) q }
       go x q (refused code some) none = absurd (omega arith)

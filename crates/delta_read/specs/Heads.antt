@@ -16,7 +16,8 @@ use Rattle.varints.specs.Fields.{by-field}
 
 pub data Opens (W : ℕ) (page : List ℕ) : Head → Type 0 where
   unopened : (code : ℕ) → 0 < code → Opens W page (Unopened code)
-  opens : (size minis first next : ℕ) → shaped size minis ≡ true → first < 2 ^ W → next ≤ length page → Opens W page (Opened size minis first next)
+  opens : (size minis first next : ℕ) → shaped size minis ≡ true → first < 2 ^ W → next ≤ length page
+      → Opens W page (Opened size minis first next)
 
 module _ (W n : ℕ) (page : List ℕ) where
   pub head-opens : Opens W page (headAt W n page)
@@ -35,14 +36,17 @@ module _ (W n : ℕ) (page : List ℕ) where
       (λ _. unopened 13 (omega arith)))
       (λ _. unopened 12 (omega arith))))))
 
-  pub head-shaped : {size minis first next : ℕ} → headAt W n page ≡ Opened size minis first next → shaped size minis ≡ true
+  pub head-shaped : {size minis first next : ℕ} → headAt W n page ≡ Opened size minis first next
+      → shaped size minis ≡ true
   head-shaped e = go (subst (Opens W page) e head-opens)
     where
       go : {size minis first next : ℕ} → Opens W page (Opened size minis first next) → shaped size minis ≡ true
       go (opens size minis first next good small within) = good
 
-  pub head-places : {size minis first next : ℕ} → headAt W n page ≡ Opened size minis first next → (first < 2 ^ W) × (next ≤ length page)
+  pub head-places : {size minis first next : ℕ} → headAt W n page ≡ Opened size minis first next
+      → (first < 2 ^ W) × (next ≤ length page)
   head-places e = go (subst (Opens W page) e head-opens)
     where
-      go : {size minis first next : ℕ} → Opens W page (Opened size minis first next) → (first < 2 ^ W) × (next ≤ length page)
+      go : {size minis first next : ℕ} → Opens W page (Opened size minis first next)
+          → (first < 2 ^ W) × (next ≤ length page)
       go (opens size minis first next good small within) = (small, within)

@@ -1,4 +1,5 @@
--- The needed miniblocks: each has a delta that is still to come, and together they have all of those that the block has.
+-- The needed miniblocks: each has a delta that is still to come, and together they have all of those that the block
+-- has.
 use mathlib.Core.Path.{_≡_, refl}
 use mathlib.Core.Bool.{Bool, true, false}
 use Prim.Native.Nat.{ℕ, _+_, _-_, _*_, _<_, _≤_, min}

@@ -24,13 +24,24 @@ factor-some : (a b : ℕ) → 0 < a * b → 0 < a
 factor-some zero b h = absurd (omega arith)
 factor-some (suc a) b h = omega arith
 
-of-numbers : (size minis : ℕ) → 128 ≤ size → size ≤ 16384 → 0 < minis → size / minis * minis ≡ size → size / minis % 32 ≡ 0 → Shape size minis
+of-numbers : (size minis : ℕ) → 128 ≤ size → size ≤ 16384 → 0 < minis → size / minis * minis ≡ size
+    → size / minis % 32 ≡ 0 → Shape size minis
 of-numbers size minis low high some whole groups =
     let m : ℕ = size / minis in
     let one : 0 < m = factor-some m minis (omega arith) in
-    let few : minis ≤ size = omega (arith, mul-le-mul {n₁ = 1} {m₁ = minis} {n₂ = m} {m₂ = minis} one (omega arith)) in
+    let few : minis ≤ size =
+    omega (arith, mul-le-mul {n₁ = 1} {m₁ = minis} {n₂ = m} {m₂ = minis} one (omega arith)) in
     let short : m ≤ size = omega (arith, mul-le-mul {n₁ = m} {m₁ = 1} {n₂ = m} {m₂ = minis} (omega arith) some) in
-    record { low = low; high = high; some = some; few = omega arith; whole = whole; groups = groups; long = omega arith; short = omega arith }
+    record {
+      low = low;
+      high = high;
+      some = some;
+      few = omega arith;
+      whole = whole;
+      groups = groups;
+      long = omega arith;
+      short = omega arith;
+    }
 
 pub shape : (size minis : ℕ) → shaped size minis ≡ true → Shape size minis
 unfolding shaped

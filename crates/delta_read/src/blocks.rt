@@ -21,7 +21,8 @@ pub fn needed_of(minis: usize, m: usize, left: usize) -> usize
     all
 }
 
-// The block at a place of the page: its smallest delta, its width bytes, and the bodies of the needed miniblocks.
+// The block at a place of the page: its smallest delta, its width bytes, and the bodies of the needed
+// miniblocks.
 pub fn block_at(page: &[u8], at: usize, minis: usize, need: usize, m: usize) -> Block
     requires { ⌜ (need ≤ minis) × (minis ≤ 16384) × (m ≤ 16384) ⌝ }
     ensures { λ r. ⌜ r ≡ blockAt 32 minis need m (now (page .entry)) at ⌝ }

@@ -1,3 +1,2 @@
 // Delta pages: scan.
-pub mod judging;
 pub mod scanning;

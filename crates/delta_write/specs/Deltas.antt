@@ -1,4 +1,5 @@
--- Wrapped deltas: place by place, signed numbers of W bits, their least; and that no packed number needs more than W bits.
+-- Wrapped deltas: place by place, signed numbers of W bits, their least; and that no packed number needs more than
+-- W bits.
 use mathlib.Core.Path.{_≡_, refl, ap, ap₂, _∙_}
 use mathlib.Core.Bool.{Bool, true, false, cond, _||_}
 use mathlib.Core.List.{List, [], _∷_, map}
@@ -28,14 +29,16 @@ module _ (W : ℕ) where
   length-deltas (x ∷ []) = refl
   length-deltas (x ∷ y ∷ s) = ap suc (length-deltas (y ∷ s)) ∙ omega arith
 
-  between : (xs : List ℤ) (i : ℕ) → suc i < length xs → getD (deltas W xs) i (pos 0) ≡ wrapped W (getD xs (suc i) (pos 0) -ℤ getD xs i (pos 0))
+  between : (xs : List ℤ) (i : ℕ) → suc i < length xs
+      → getD (deltas W xs) i (pos 0) ≡ wrapped W (getD xs (suc i) (pos 0) -ℤ getD xs i (pos 0))
   between [] i h = absurd (omega arith)
   between (x ∷ []) i h = absurd (omega arith)
   between (x ∷ y ∷ s) zero h = refl
   between (x ∷ y ∷ s) (suc i) h = between (y ∷ s) i (omega arith)
 
   -- from each entry to the next
-  pub getD-deltas : (xs : List ℤ) (i : ℕ) → i + 1 < length xs → getD (deltas W xs) i (pos 0) ≡ wrapped W (getD xs (i + 1) (pos 0) -ℤ getD xs i (pos 0))
+  pub getD-deltas : (xs : List ℤ) (i : ℕ) → i + 1 < length xs
+      → getD (deltas W xs) i (pos 0) ≡ wrapped W (getD xs (i + 1) (pos 0) -ℤ getD xs i (pos 0))
   getD-deltas xs i h = rw add-one (between xs i (omega arith))
 
 -- a part of some deltas, place by place
@@ -90,12 +93,15 @@ least-below a b = go (leZ a b) refl
 
 from-below : (z : ℤ) (zs : List ℤ) → leZ (leastFrom z zs) z ≡ true
 from-below z [] = leZ-refl z
-from-below z (d ∷ zs) = leZ-trans (leastFrom (cond (leZ z d) z d) zs) (cond (leZ z d) z d) z (from-below (cond (leZ z d) z d) zs) (least-below z d .0)
+from-below z (d ∷ zs) =
+    leZ-trans (leastFrom (cond (leZ z d) z d) zs) (cond (leZ z d) z d) z (from-below (cond (leZ z d) z d) zs)
+    (least-below z d .0)
 
 from-each : (z : ℤ) (zs : List ℤ) (i : ℕ) → i < length zs → leZ (leastFrom z zs) (getD zs i (pos 0)) ≡ true
 from-each z [] i h = absurd (omega arith)
 from-each z (d ∷ zs) zero h =
-    leZ-trans (leastFrom (cond (leZ z d) z d) zs) (cond (leZ z d) z d) d (from-below (cond (leZ z d) z d) zs) (least-below z d .1)
+    leZ-trans (leastFrom (cond (leZ z d) z d) zs) (cond (leZ z d) z d) d (from-below (cond (leZ z d) z d) zs)
+    (least-below z d .1)
 from-each z (d ∷ zs) (suc i) h = from-each (cond (leZ z d) z d) zs i (omega arith)
 
 -- it is at most each of them
@@ -112,7 +118,8 @@ least-first zs from k h some =
     ap (λ (n : ℕ). least (take n (drop from zs))) e ∙ rw (drop-cons zs from (pos 0) h, add-one)
 
 pub least-more : (zs : List ℤ) (z : ℤ) (i m : ℕ) → i < length zs → 0 < m
-    → leastFrom z (take m (drop i zs)) ≡ leastFrom (cond (leZ z (getD zs i (pos 0))) z (getD zs i (pos 0))) (take (m - 1) (drop (i + 1) zs))
+    → leastFrom z (take m (drop i zs))
+    ≡ leastFrom (cond (leZ z (getD zs i (pos 0))) z (getD zs i (pos 0))) (take (m - 1) (drop (i + 1) zs))
 least-more zs z i m h some =
     let e : m ≡ suc (m - 1) = omega arith in
     ap (λ (n : ℕ). leastFrom z (take n (drop i zs))) e ∙ rw (drop-cons zs i (pos 0) h, add-one)
@@ -120,7 +127,8 @@ least-more zs z i m h some =
 module _ (W : ℕ) (some : 0 < W) where
   from-within : (z : ℤ) (zs : List ℤ) → Within W z → AllWithin W zs → Within W (leastFrom z zs)
   from-within z [] h all = h
-  from-within z (d ∷ zs) h all = from-within (cond (leZ z d) z d) zs (either (Within W) z d (leZ z d) h (all 0)) (λ i. all (suc i))
+  from-within z (d ∷ zs) h all =
+      from-within (cond (leZ z d) z d) zs (either (Within W) z d (leZ z d) h (all 0)) (λ i. all (suc i))
 
   pub least-within : (zs : List ℤ) → AllWithin W zs → Within W (least zs)
   least-within [] all = zero-within W some
@@ -138,7 +146,8 @@ length-above zs = go zs
 pub getD-above : (zs : List ℤ) (i : ℕ) → i < length zs → getD (aboveLeast zs) i 0 ≡ gap (getD zs i (pos 0)) (least zs)
 getD-above zs i h = go zs i h
   where
-    go : (l : List ℤ) (i : ℕ) → i < length l → getD (map (λ d. gap d (least zs)) l) i 0 ≡ gap (getD l i (pos 0)) (least zs)
+    go : (l : List ℤ) (i : ℕ) → i < length l
+        → getD (map (λ d. gap d (least zs)) l) i 0 ≡ gap (getD l i (pos 0)) (least zs)
     go [] i h = absurd (omega arith)
     go (z ∷ l) zero h = refl
     go (z ∷ l) (suc i) h = go l i (omega arith)
@@ -155,8 +164,11 @@ module _ (zs : List ℤ) (from k : ℕ) (h : from + k ≤ length zs) where
     pub least-part : leZ (least (take k (drop from zs))) (getD zs (from + i) (pos 0)) ≡ true
     least-part = rw (getD-part zs from k i l) at (least-each (take k (drop from zs)) i inside)
 
-    pub getD-part-above : getD (aboveLeast (take k (drop from zs))) i 0 ≡ gap (getD zs (from + i) (pos 0)) (least (take k (drop from zs)))
-    getD-part-above = getD-above (take k (drop from zs)) i inside ∙ ap (λ (z : ℤ). gap z (least (take k (drop from zs)))) (getD-part zs from k i l)
+    pub getD-part-above : getD (aboveLeast (take k (drop from zs))) i 0
+        ≡ gap (getD zs (from + i) (pos 0)) (least (take k (drop from zs)))
+    getD-part-above =
+        getD-above (take k (drop from zs)) i inside
+        ∙ ap (λ (z : ℤ). gap z (least (take k (drop from zs)))) (getD-part zs from k i l)
 
 module _ (W : ℕ) (some : 0 < W) where
   -- whatever the deltas, W bits hold them all
@@ -179,4 +191,5 @@ module _ (W : ℕ) (some : 0 < W) where
   -- so 17 never arises
   pub no-wide-fault : (entries : List ℤ) → wideFault W entries ≡ 0
   unfolding wideFault
-  no-wide-fault entries = ap (λ (t : Bool). faulty t 17) (never-wide (length entries) (deltas W entries) (deltas-within W some entries))
+  no-wide-fault entries =
+      ap (λ (t : Bool). faulty t 17) (never-wide (length entries) (deltas W entries) (deltas-within W some entries))

@@ -26,12 +26,14 @@ module _ (W : ℕ) where
       (e ∙ ap (modulo W) (sym (-ℤ-+ℤ-cancel y x)) ∙ modulo-add W (y -ℤ x) x)
 
   -- and how far y is above x, where both have W bits
-  pub difference-gap : (r : ℕ) (y x : ℤ) → Within W y → Within W x → leZ x y ≡ true → r < 2 ^ W → (r + modulo W x) % 2 ^ W ≡ modulo W y → r ≡ gap y x
+  pub difference-gap : (r : ℕ) (y x : ℤ) → Within W y → Within W x → leZ x y ≡ true → r < 2 ^ W
+      → (r + modulo W x) % 2 ^ W ≡ modulo W y → r ≡ gap y x
   unfolding modulo
   difference-gap r y x fits fits′ l h e =
       let g : ℕ = gap y x in
       let small : g < 2 ^ W = gap-lt W y x fits fits′ in
       let sum : modulo W y ≡ (g + modulo W x) % 2 ^ W =
-      ap (modulo W) (sym (gap-is y x l)) ∙ modulo-add W x (pos g) ∙ ap (λ (k : ℕ). (modulo W x + k) % 2 ^ W) (mod-eq-of-lt small)
+      ap (modulo W) (sym (gap-is y x l)) ∙ modulo-add W x (pos g)
+      ∙ ap (λ (k : ℕ). (modulo W x + k) % 2 ^ W) (mod-eq-of-lt small)
       ∙ ap (λ (k : ℕ). k % 2 ^ W) (add-comm (modulo W x) g) in
       cancel r g (modulo W x) h small (modulo-lt W x) (e ∙ sum)

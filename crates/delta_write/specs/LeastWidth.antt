@@ -36,7 +36,8 @@ unfolding widthOf
 width-fits zero x h = h
 width-fits (suc W) x h = go (eqb x 0) refl (width-fits W (x / 2))
   where
-    go : (t : Bool) → eqb x 0 ≡ t → (x / 2 < 2 ^ W → x / 2 < 2 ^ widthOf W (x / 2)) → x < 2 ^ cond t 0 (suc (widthOf W (x / 2)))
+    go : (t : Bool) → eqb x 0 ≡ t → (x / 2 < 2 ^ W → x / 2 < 2 ^ widthOf W (x / 2))
+        → x < 2 ^ cond t 0 (suc (widthOf W (x / 2)))
     go true e rest = omega (arith, eqb-true x 0 e)
     go false e rest = omega (arith, rest (omega (arith, pow-suc 2 W)), pow-suc 2 (widthOf W (x / 2)))
 
@@ -64,7 +65,13 @@ width-leading W x h =
     go : (m : (m : ℕ) × (leadingZeros W x + m ≡ W) × (x < 2 ^ m) × (2 ^ m ≤ 2 * x + 1)) → widthOf W x ≤ m .0
         → (t : Bool) → leb (suc (widthOf W x)) (m .0) ≡ t → W - leadingZeros W x ≡ widthOf W x
     go m l true e =
-        absurd (omega (arith, width-fits W x h, pow-suc 2 (widthOf W x), pow-mono {i = suc (widthOf W x)} {j = m .0} (leb-true (suc (widthOf W x)) (m .0) e)))
+        absurd
+        (omega (
+          arith,
+          width-fits W x h,
+          pow-suc 2 (widthOf W x),
+          pow-mono {i = suc (widthOf W x)} {j = m .0} (leb-true (suc (widthOf W x)) (m .0) e),
+        ))
     go m l false e = omega (arith, leb-false (suc (widthOf W x)) (m .0) e)
 
 -- ---- of all numbers of a list
@@ -76,16 +83,19 @@ widths-le W (x ∷ xs) = omega (arith, width-le W x, widths-le W xs)
 -- it holds them all
 pub widths-hold : (W : ℕ) (xs : List ℕ) → Small W xs → Small (widthFor W xs) xs
 widths-hold W [] h k = omega arith
-widths-hold W (x ∷ xs) h zero = lt-of-lt-of-le (width-fits W x (h 0)) (pow-mono {i = widthOf W x} {j = widthFor W (x ∷ xs)} (omega arith))
+widths-hold W (x ∷ xs) h zero =
+    lt-of-lt-of-le (width-fits W x (h 0)) (pow-mono {i = widthOf W x} {j = widthFor W (x ∷ xs)} (omega arith))
 widths-hold W (x ∷ xs) h (suc k) =
-    lt-of-lt-of-le (widths-hold W xs (λ i. h (suc i)) k) (pow-mono {i = widthFor W xs} {j = widthFor W (x ∷ xs)} (omega arith))
+    lt-of-lt-of-le (widths-hold W xs (λ i. h (suc i)) k)
+    (pow-mono {i = widthFor W xs} {j = widthFor W (x ∷ xs)} (omega arith))
 
 pub widths-least : (W k : ℕ) (xs : List ℕ) → Small k xs → widthFor W xs ≤ k
 widths-least W k [] h = omega arith
 widths-least W k (x ∷ xs) h = omega (arith, width-least W x k (h 0), widths-least W k xs (λ i. h (suc i)))
 
 -- a number that reaches the same powers of 2 as some number of the list has the list's width
-pub width-together : (W all : ℕ) (xs : List ℕ) → all < 2 ^ W → ((w : ℕ) → leb (2 ^ w) all ≡ anyLarge w xs) → widthOf W all ≡ widthFor W xs
+pub width-together : (W all : ℕ) (xs : List ℕ) → all < 2 ^ W → ((w : ℕ) → leb (2 ^ w) all ≡ anyLarge w xs)
+    → widthOf W all ≡ widthFor W xs
 width-together W all xs h same =
     let small : Small W xs = small-of W xs (sym (same W) ∙ lt-leb (2 ^ W) all h) in
     let held : all < 2 ^ widthFor W xs =

@@ -1,4 +1,5 @@
--- The miniblocks of a block: one more behind the others, how many bytes they take, and that filling with 0 changes nothing.
+-- The miniblocks of a block: one more behind the others, how many bytes they take, and that filling with 0 changes
+-- nothing.
 use mathlib.Core.Path.{_≡_, refl, sym, ap, ap₂, _∙_}
 use mathlib.Core.Bool.{Bool, true, false}
 use mathlib.Core.List.{List, [], _∷_, _++_, append-assoc, append-nil}
@@ -6,7 +7,8 @@ use Prim.Native.Nat.{ℕ, zero, suc, _+_, _-_, _*_, _≤_, _<_}
 use native.Mathlib.Numerals.{add-one}
 use native.Mathlib.Omega.{arith}
 use lib.Dec.{ltb}
-use lib.ListN.{length, take, drop, getD, length-append, length-take, length-drop, List·getD-eq-default, List·getD-append, replicate}
+use lib.ListN.{length, take, drop, getD, length-append, length-take, length-drop, List·getD-eq-default}
+use lib.ListN.{List·getD-append, replicate}
 use lib.Seq.{drop-drop, getD-take, getD-drop, getD-append-add, length-take-le}
 use borrow.Author.Tests.{ltb-true, ltb-false}
 use Rattle.rules.specs.Bits.{tabulate, put}
@@ -46,7 +48,8 @@ bodies-suc zero W xs = append-nil (body W 0 xs)
 bodies-suc (suc j) W xs =
     let first : List ℕ = packed lowFirst (widthFor W (take 32 xs)) (filled (take 32 xs)) in
     ap (λ (l : List ℕ). first ++ l)
-    (bodies-suc j W (drop 32 xs) ∙ ap (λ (m : List ℕ). bodies j W (drop 32 xs) ++ packed lowFirst (widthFor W m) (filled m)) (later j xs))
+    (bodies-suc j W (drop 32 xs)
+    ∙ ap (λ (m : List ℕ). bodies j W (drop 32 xs) ++ packed lowFirst (widthFor W m) (filled m)) (later j xs))
     ∙ sym (append-assoc first (bodies j W (drop 32 xs)) (body W (suc j) xs))
 
 pub widths-next : (j W : ℕ) (xs : List ℕ) → widths (j + 1) W xs ≡ widths j W xs ++ (widthFor W (mini j xs) ∷ [])
@@ -67,7 +70,8 @@ length-body w xs =
     let size : length (filled xs) ≡ 32 = length-tabulate 32 (λ i. getD xs i 0) in
     length-packed lowFirst w (filled xs) ∙ ap (pageBytes w) size ∙ omega arith
 
-pub length-bodies-next : (j W : ℕ) (xs : List ℕ) → length (bodies (j + 1) W xs) ≡ length (bodies j W xs) + 4 * widthFor W (mini j xs)
+pub length-bodies-next : (j W : ℕ) (xs : List ℕ)
+    → length (bodies (j + 1) W xs) ≡ length (bodies j W xs) + 4 * widthFor W (mini j xs)
 length-bodies-next j W xs =
     ap length (bodies-next j W xs) ∙ length-append (bodies j W xs) (body W j xs)
     ∙ ap (λ (n : ℕ). length (bodies j W xs) + n) (length-body (widthFor W (mini j xs)) (mini j xs))
@@ -106,13 +110,15 @@ turn W xs j e h all =
     })
 
 -- the body is laid behind the others
-pub bodies-put : (W : ℕ) (xs l : List ℕ) (j at : ℕ) {w i : ℕ} {l₁ l₂ : List ℕ} → w ≡ widthFor W (mini j xs) → Turn W xs j w → j < 4 → length xs ≡ 128
+pub bodies-put : (W : ℕ) (xs l : List ℕ) (j at : ℕ) {w i : ℕ} {l₁ l₂ : List ℕ} → w ≡ widthFor W (mini j xs)
+    → Turn W xs j w → j < 4 → length xs ≡ 128
     → at + length (bodies 4 W xs) ≤ length l → l₁ ≡ put l at (bodies j W xs) → i ≡ at + length (bodies j W xs)
     → l₂ ≡ put l₁ i (packed lowFirst w (mini j xs)) → l₂ ≡ put l at (bodies (j + 1) W xs)
 bodies-put W xs l j at {w} e t h size room first next second =
     let whole : packed lowFirst w (mini j xs) ≡ body W j xs =
     ap₂ (packed lowFirst) e (sym (filled-whole (mini j xs) (length-mini j xs (omega arith)))) in
-    put-behind l at (bodies j W xs) (body W j xs) first next (rw whole at second) (omega (arith, length-body (widthFor W (mini j xs)) (mini j xs)))
+    put-behind l at (bodies j W xs) (body W j xs) first next (rw whole at second)
+    (omega (arith, length-body (widthFor W (mini j xs)) (mini j xs)))
     ∙ ap (put l at) (sym (bodies-next j W xs))
 
 -- ---- filled with 0
@@ -146,13 +152,16 @@ same-filled xs ys h = tabulate-ext 32 (λ i. getD xs i 0) (λ i. getD ys i 0) (�
 pub same-widths : (j W : ℕ) (xs ys : List ℕ) → Same xs ys → widths j W xs ≡ widths j W ys
 same-widths zero W xs ys h = refl
 same-widths (suc j) W xs ys h =
-    ap₂ (λ (w : ℕ) (l : List ℕ). w ∷ l) (same-width W (take 32 xs) (take 32 ys) (same-take 32 xs ys h)) (same-widths j W (drop 32 xs) (drop 32 ys) (same-drop 32 xs ys h))
+    ap₂ (λ (w : ℕ) (l : List ℕ). w ∷ l) (same-width W (take 32 xs) (take 32 ys) (same-take 32 xs ys h))
+    (same-widths j W (drop 32 xs) (drop 32 ys) (same-drop 32 xs ys h))
 
 pub same-bodies : (j W : ℕ) (xs ys : List ℕ) → Same xs ys → bodies j W xs ≡ bodies j W ys
 same-bodies zero W xs ys h = refl
 same-bodies (suc j) W xs ys h =
     let front = same-take 32 xs ys h in
-    ap₂ (λ (a b : List ℕ). a ++ b) (ap₂ (packed lowFirst) (same-width W (take 32 xs) (take 32 ys) front) (same-filled (take 32 xs) (take 32 ys) front))
+    ap₂ (λ (a b : List ℕ). a ++ b)
+    (ap₂ (packed lowFirst) (same-width W (take 32 xs) (take 32 ys) front)
+    (same-filled (take 32 xs) (take 32 ys) front))
     (same-bodies j W (drop 32 xs) (drop 32 ys) (same-drop 32 xs ys h))
 
 zeros : (n i : ℕ) → getD {A = ℕ} (replicate n 0) i 0 ≡ 0
@@ -174,4 +183,6 @@ same-put xs n i = go (ltb i (length xs)) refl
         let past = ltb-false i (length xs) e in
         let place : i ≡ length xs + (i - length xs) = omega arith in
         List·getD-eq-default xs 0 past
-        ∙ sym (ap (λ (k : ℕ). getD (xs ++ rest) k 0) place ∙ getD-append-add xs rest (i - length xs) 0 ∙ getD-drop (0 + length xs) (replicate n 0) (i - length xs) 0 ∙ zeros n _)
+        ∙ sym
+        (ap (λ (k : ℕ). getD (xs ++ rest) k 0) place ∙ getD-append-add xs rest (i - length xs) 0
+        ∙ getD-drop (0 + length xs) (replicate n 0) (i - length xs) 0 ∙ zeros n _)

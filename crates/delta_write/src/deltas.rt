@@ -57,8 +57,12 @@ fn above(delta: i32, least: i32) -> u32
 
 // How far each of the k deltas from delta `from` on is above their least, into the first places.
 fn put_above(entries: &[i32], from: usize, k: usize, smallest: i32, numbers: &mut [u32])
-    requires { ⌜ (k ≤ length (now numbers)) × (from + k < length (now entries)) × (length (now entries) ≤ 16384) × (smallest ≡ least (take k (drop from (deltas 32 (now entries))))) ⌝ }
-    ensures { λ _. ⌜ now (numbers .exit) ≡ put (now (numbers .entry)) 0 (aboveLeast (take k (drop from (deltas 32 (now (entries .entry)))))) ⌝ }
+    requires { ⌜ (k ≤ length (now numbers)) × (from + k < length (now entries))
+        × (length (now entries) ≤ 16384)
+        × (smallest ≡ least (take k (drop from (deltas 32 (now entries))))) ⌝ }
+    ensures { λ _. ⌜ now (numbers .exit)
+        ≡ put (now (numbers .entry)) 0
+        (aboveLeast (take k (drop from (deltas 32 (now (entries .entry)))))) ⌝ }
 {
     let mut i: usize = 0;
     while i < k {
@@ -69,9 +73,13 @@ fn put_above(entries: &[i32], from: usize, k: usize, smallest: i32, numbers: &mu
 
 // The same, with their least given as a zigzag number.
 pub fn put_numbers(entries: &[i32], from: usize, k: usize, numbers: &mut [u32]) -> u32
-    requires { ⌜ (0 < k) × (k ≤ length (now numbers)) × (from + k < length (now entries)) × (length (now entries) ≤ 16384) ⌝ }
-    ensures stored { λ _. ⌜ now (numbers .exit) ≡ put (now (numbers .entry)) 0 (aboveLeast (take k (drop from (deltas 32 (now (entries .entry)))))) ⌝ }
-    ensures smallest { λ r. ⌜ r ≡ zigzagOf (least (take k (drop from (deltas 32 (now (entries .entry)))))) ⌝ }
+    requires { ⌜ (0 < k) × (k ≤ length (now numbers)) × (from + k < length (now entries))
+        × (length (now entries) ≤ 16384) ⌝ }
+    ensures stored { λ _. ⌜ now (numbers .exit)
+        ≡ put (now (numbers .entry)) 0
+        (aboveLeast (take k (drop from (deltas 32 (now (entries .entry)))))) ⌝ }
+    ensures smallest { λ r. ⌜ r
+        ≡ zigzagOf (least (take k (drop from (deltas 32 (now (entries .entry)))))) ⌝ }
 {
     let smallest = least_of(entries, from, k);
     put_above(entries, from, k, smallest, numbers);

@@ -53,8 +53,10 @@ pub fn put_widths(numbers: &[u32], page: &mut [u8], at: usize)
 
 // The bodies, one after another from place `at` on; the next place is given.
 pub fn put_bodies(numbers: &[u32], page: &mut [u8], at: usize) -> usize
-    requires { ⌜ (length (now numbers) ≡ 128) × (at + length (bodies 4 32 (now numbers)) ≤ length (now page)) ⌝ }
-    ensures stored { λ _. ⌜ now (page .exit) ≡ put (now (page .entry)) at (bodies 4 32 (now (numbers .entry))) ⌝ }
+    requires { ⌜ (length (now numbers) ≡ 128)
+        × (at + length (bodies 4 32 (now numbers)) ≤ length (now page)) ⌝ }
+    ensures stored { λ _. ⌜ now (page .exit)
+        ≡ put (now (page .entry)) at (bodies 4 32 (now (numbers .entry))) ⌝ }
     ensures next { λ r. ⌜ r ≡ at + length (bodies 4 32 (now (numbers .entry))) ⌝ }
 {
     let mut next = at;

@@ -34,7 +34,8 @@ fn header_size(entries: &[i32]) -> usize
 
 // The smallest delta, the width bytes and the bodies of the k deltas from delta `from` on.
 fn block_size(entries: &[i32], from: usize, k: usize) -> usize
-    requires { ⌜ (0 < k) × (k ≤ 128) × (from + k < length (now entries)) × (length (now entries) ≤ 16384) ⌝ }
+    requires { ⌜ (0 < k) × (k ≤ 128) × (from + k < length (now entries))
+        × (length (now entries) ≤ 16384) ⌝ }
     ensures { λ r. ⌜ r ≡ length (block 32 (take k (drop from (deltas 32 (now (entries .entry)))))) ⌝ }
 {
     let mut numbers = [0u32; 128];

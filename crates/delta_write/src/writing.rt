@@ -27,9 +27,13 @@ fn put_header(entries: &[i32], page: &mut [u8]) -> usize
 
 // The block of the k deltas from delta `from` on, from place `at` of the page on; the next place is given.
 fn put_block(entries: &[i32], from: usize, k: usize, page: &mut [u8], at: usize) -> usize
-    requires { ⌜ (0 < k) × (k ≤ 128) × (from + k < length (now entries)) × (length (now entries) ≤ 16384) × (at + length (block 32 (take k (drop from (deltas 32 (now entries))))) ≤ length (now page)) ⌝ }
-    ensures stored { λ _. ⌜ now (page .exit) ≡ put (now (page .entry)) at (block 32 (take k (drop from (deltas 32 (now (entries .entry)))))) ⌝ }
-    ensures next { λ r. ⌜ r ≡ at + length (block 32 (take k (drop from (deltas 32 (now (entries .entry)))))) ⌝ }
+    requires { ⌜ (0 < k) × (k ≤ 128) × (from + k < length (now entries)) × (length (now entries) ≤ 16384)
+        × (at + length (block 32 (take k (drop from (deltas 32 (now entries))))) ≤ length (now page)) ⌝ }
+    ensures stored { λ _. ⌜ now (page .exit)
+        ≡ put (now (page .entry)) at
+        (block 32 (take k (drop from (deltas 32 (now (entries .entry)))))) ⌝ }
+    ensures next { λ r. ⌜ r
+        ≡ at + length (block 32 (take k (drop from (deltas 32 (now (entries .entry)))))) ⌝ }
 {
     let mut numbers = [0u32; 128];
     let smallest = put_numbers(entries, from, k, &mut numbers);
@@ -40,8 +44,10 @@ fn put_block(entries: &[i32], from: usize, k: usize, page: &mut [u8], at: usize)
 
 // The page of the entries, block by block.
 pub fn put_page(entries: &[i32], page: &mut [u8])
-    requires { ⌜ (length (now entries) ≤ 16384) × (length (DeltaWriter.page 32 (now entries)) ≤ length (now page)) ⌝ }
-    ensures { λ _. ⌜ now (page .exit) ≡ put (now (page .entry)) 0 (DeltaWriter.page 32 (now (entries .entry))) ⌝ }
+    requires { ⌜ (length (now entries) ≤ 16384)
+        × (length (DeltaWriter.page 32 (now entries)) ≤ length (now page)) ⌝ }
+    ensures { λ _. ⌜ now (page .exit)
+        ≡ put (now (page .entry)) 0 (DeltaWriter.page 32 (now (entries .entry))) ⌝ }
 {
     let mut at = put_header(entries, page);
     let mut from: usize = 0;

@@ -23,12 +23,15 @@ largeFault limit n page = faulty (someBelow n (λ i. leb limit (indexAt n page i
 pub none-large : (limit n : ℕ) (page : List ℕ) → 2 ^ widthOf page ≤ limit → largeFault limit n page ≡ 0
 none-large limit n page h =
     ap (λ (t : Bool). faulty t 15)
-    (none-below n (λ i. leb limit (indexAt n page i)) (λ i l. lt-leb limit (indexAt n page i) (lt-of-lt-of-le (index-below n page i) h)))
+    (none-below n (λ i. leb limit (indexAt n page i))
+    (λ i l. lt-leb limit (indexAt n page i) (lt-of-lt-of-le (index-below n page i) h)))
 
 -- a page with its width byte is judged by the stream behind it
 pub page-judged : (limit n : ℕ) (page : List ℕ) → 0 < length page → widthOf page ≤ 32
     → (streamFault (indexes n page) then largeFault limit n page)
-    ≡ (streamFault (read (widthOf page) n (streamOf page)) then faulty (someBelow n (λ i. leb limit (streamEntry (widthOf page) (read (widthOf page) n (streamOf page)) i))) 15)
+    ≡ (streamFault (read (widthOf page) n (streamOf page))
+    then faulty
+    (someBelow n (λ i. leb limit (streamEntry (widthOf page) (read (widthOf page) n (streamOf page)) i))) 15)
 unfolding indexes indexAt
 page-judged limit n [] some narrow = absurd (omega arith)
 page-judged limit n (w ∷ s) some narrow = rw (le-ltb 32 w narrow)

@@ -28,7 +28,8 @@ unfolding indexes
 indexes-none n [] e = refl
 indexes-none n (w ∷ s) e = absurd (omega arith)
 
-pub indexes-some : (n : ℕ) (page : List ℕ) → 0 < length page → indexes n page ≡ cond (ltb 32 (widthOf page)) (bad 1) (read (widthOf page) n (streamOf page))
+pub indexes-some : (n : ℕ) (page : List ℕ) → 0 < length page
+    → indexes n page ≡ cond (ltb 32 (widthOf page)) (bad 1) (read (widthOf page) n (streamOf page))
 unfolding indexes
 indexes-some n [] h = absurd (omega arith)
 indexes-some n (w ∷ s) h = refl
@@ -62,7 +63,8 @@ indexes-marked test n [] out e = absurd (omega (arith, good-page n [] e .some))
 indexes-marked test n (w ∷ s) out e = marked-read test w n s out (good-page n (w ∷ s) e .reads)
 
 -- and of places, each index as the value that it stands for
-pub indexes-placed : {A : Type 0} (value : ℕ → A) (n : ℕ) (page : List ℕ) (out : List A) → n ≤ length out → streamFault (indexes n page) ≡ 0
+pub indexes-placed : {A : Type 0} (value : ℕ → A) (n : ℕ) (page : List ℕ) (out : List A) → n ≤ length out
+    → streamFault (indexes n page) ≡ 0
     → placed value (widthOf page) n (streamOf page) out ≡ put out 0 (tabulate n (λ i. value (indexAt n page i)))
 unfolding indexAt
 indexes-placed value n [] out room e = absurd (omega (arith, good-page n [] e .some))

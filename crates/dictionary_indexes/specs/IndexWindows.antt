@@ -1,4 +1,5 @@
--- Packed indexes in windows of eight bytes: some are too large where a bit is set of those that the sums of their slots have for it.
+-- Packed indexes in windows of eight bytes: some are too large where a bit is set of those that the sums of their
+-- slots have for it.
 use mathlib.Core.Path.{_≡_, refl, ap, ap₂, _∙_}
 use mathlib.Core.Bool.{Bool, true, false, _&&_, _||_}
 use mathlib.Core.List.{List}
@@ -22,10 +23,12 @@ use Rattle.words.specs.SomeBelow.{some-ext, some-add, some-halves}
 
 -- ---- sums in slots: bit w says whether a slot's index is too large
 
-slot-large : (w limit x : ℕ) → x < 2 ^ w → limit ≤ 2 ^ w → bitAnd (x + (2 ^ w - limit)) (2 ^ w) ≡ flag (leb limit x) * 2 ^ w
+slot-large : (w limit x : ℕ) → x < 2 ^ w → limit ≤ 2 ^ w
+    → bitAnd (x + (2 ^ w - limit)) (2 ^ w) ≡ flag (leb limit x) * 2 ^ w
 slot-large w limit x small low = go (leb limit x) refl
   where
-    top : (a r : ℕ) → r < 2 ^ w → x + (2 ^ w - limit) ≡ a * 2 ^ w + r → bitAnd (x + (2 ^ w - limit)) (2 ^ w) ≡ bitAnd a 1 * 2 ^ w
+    top : (a r : ℕ) → r < 2 ^ w → x + (2 ^ w - limit) ≡ a * 2 ^ w + r
+        → bitAnd (x + (2 ^ w - limit)) (2 ^ w) ≡ bitAnd a 1 * 2 ^ w
     top a r h e =
         let one : 2 ^ w ≡ 1 * 2 ^ w + 0 = omega arith in
         ap₂ bitAnd e one ∙ and-block w a 1 r 0 h (pow-pos w) ∙ rw (and-zero-r r, add-zero)
@@ -39,7 +42,8 @@ unfolding slots joined tabulate someBelow
 slots-some zero d p t h = refl
 slots-some (suc n) d p t h =
     any-add (flag (t zero) * p) (slots n d (λ i. flag (t (suc i)) * p) * 2 ^ d)
-    ∙ ap₂ _||_ (any-mul (flag (t zero)) p h ∙ any-flag (t zero)) (any-mul (slots n d (λ i. flag (t (suc i)) * p)) (2 ^ d) (pow-pos d) ∙ slots-some n d p (λ i. t (suc i)) h)
+    ∙ ap₂ _||_ (any-mul (flag (t zero)) p h ∙ any-flag (t zero))
+    (any-mul (slots n d (λ i. flag (t (suc i)) * p)) (2 ^ d) (pow-pos d) ∙ slots-some n d p (λ i. t (suc i)) h)
   where
     any-flag : (s : Bool) → ltb 0 (flag s) ≡ s
     any-flag true = refl
@@ -57,14 +61,18 @@ module _ (n w limit : ℕ) (some : 0 < w) (low : limit ≤ 2 ^ w) where
   rest = (2 ^ w - limit) * ones
 
   -- every second index of x
-  slots-large : (x : ℕ) → ltb 0 (bitAnd (bitAnd x even + rest) (2 ^ w * ones)) ≡ someBelow n (λ i. leb limit (held (2 * w) w x i))
+  slots-large : (x : ℕ)
+      → ltb 0 (bitAnd (bitAnd x even + rest) (2 ^ w * ones)) ≡ someBelow n (λ i. leb limit (held (2 * w) w x i))
   slots-large x =
       let d = 2 * w in
       let f : ℕ → ℕ = held d w x in
       let more : 2 ^ (w + 1) ≤ 2 ^ d = pow-mono {i = w + 1} {j = d} (omega arith) in
-      ap₂ (λ (p q : ℕ). ltb 0 (bitAnd p q)) (ap₂ _+_ (evens n w some x) (every n d (2 ^ w - limit)) ∙ slots-add n d f (λ i. 2 ^ w - limit)) (every n d (2 ^ w))
+      ap₂ (λ (p q : ℕ). ltb 0 (bitAnd p q))
+      (ap₂ _+_ (evens n w some x) (every n d (2 ^ w - limit)) ∙ slots-add n d f (λ i. 2 ^ w - limit))
+      (every n d (2 ^ w))
       ∙ ap (ltb 0)
-      (slots-and n d (λ i. f i + (2 ^ w - limit)) (λ i. 2 ^ w) (λ i l. omega (arith, held-lt d w x i, pow-add 2 w 1)) (λ i l. omega (arith, pow-pos w, pow-add 2 w 1))
+      (slots-and n d (λ i. f i + (2 ^ w - limit)) (λ i. 2 ^ w)
+      (λ i l. omega (arith, held-lt d w x i, pow-add 2 w 1)) (λ i l. omega (arith, pow-pos w, pow-add 2 w 1))
       ∙ slots-ext n d (λ i l. slot-large w limit (f i) (held-lt d w x i) low))
       ∙ slots-some n d (2 ^ w) (λ i. leb limit (f i)) (pow-pos w)
 
@@ -73,10 +81,12 @@ module _ (n w limit : ℕ) (some : 0 < w) (low : limit ≤ 2 ^ w) where
       let least : min limit (2 ^ w) ≡ limit = omega arith in
       rw (← least)
       (slots-fit n (2 * w) w limit 0 (bitAnd x even) (omega arith)
-      (holds-all n (2 * w) w (held (2 * w) w x) (bitAnd x even) (omega arith) (λ i l. held-lt (2 * w) w x i) (evens n w some x)) fits)
+      (holds-all n (2 * w) w (held (2 * w) w x) (bitAnd x even) (omega arith) (λ i l. held-lt (2 * w) w x i)
+      (evens n w some x)) fits)
 
   -- all indexes of x
-  pub sums-large : (x : ℕ) → ltb 0 (bitAnd (bitOr (bitAnd x even + rest) (bitAnd (x / 2 ^ w) even + rest)) (2 ^ w * ones))
+  pub sums-large : (x : ℕ)
+      → ltb 0 (bitAnd (bitOr (bitAnd x even + rest) (bitAnd (x / 2 ^ w) even + rest)) (2 ^ w * ones))
       ≡ someBelow (2 * n) (λ j. leb limit (x / 2 ^ (j * w) % 2 ^ w))
   sums-large x =
       let place : (i : ℕ) → i * (2 * w) ≡ 2 * i * w = λ i. rw (← mul-assoc, mul-comm i) in
@@ -84,7 +94,10 @@ module _ (n w limit : ℕ) (some : 0 < w) (low : limit ≤ 2 ^ w) where
       any-masked (2 ^ w * ones) (bitAnd x even + rest) (bitAnd (x / 2 ^ w) even + rest)
       ∙ ap₂ _||_
       (slots-large x ∙ some-ext n (λ i l. ap (λ (k : ℕ). leb limit (x / 2 ^ k % 2 ^ w)) (place i)))
-      (slots-large (x / 2 ^ w) ∙ some-ext n (λ i l. ap (λ (k : ℕ). leb limit (k % 2 ^ w)) (shr-shr x w (i * (2 * w)) ∙ ap (λ (k : ℕ). x / 2 ^ k) (next i))))
+      (slots-large (x / 2 ^ w)
+      ∙ some-ext n
+      (λ i l. ap (λ (k : ℕ). leb limit (k % 2 ^ w))
+      (shr-shr x w (i * (2 * w)) ∙ ap (λ (k : ℕ). x / 2 ^ k) (next i))))
       ∙ some-halves n (λ j. leb limit (x / 2 ^ (j * w) % 2 ^ w))
 
 -- ---- windows
@@ -92,28 +105,36 @@ module _ (n w limit : ℕ) (some : 0 < w) (low : limit ≤ 2 ^ w) where
 -- m entries that begin at bit o of a window
 pub window-some : (page : List ℕ) (m at o w limit x : ℕ) {k : ℕ} → Small 8 page → o + m * w ≤ 64
     → x ≡ number (take 8 (drop at page)) / 2 ^ o → 8 * at + o ≡ k
-    → someBelow m (λ j. leb limit (x / 2 ^ (j * w) % 2 ^ w)) ≡ someBelow m (λ j. leb limit (field lowFirst page (k + j * w) w))
-window-some page m at o w limit x all fits e f = some-ext m (λ j l. ap (leb limit) (window-entry page m at o w x all fits e f j l))
+    → someBelow m (λ j. leb limit (x / 2 ^ (j * w) % 2 ^ w))
+    ≡ someBelow m (λ j. leb limit (field lowFirst page (k + j * w) w))
+window-some page m at o w limit x all fits e f =
+    some-ext m (λ j l. ap (leb limit) (window-entry page m at o w x all fits e f j l))
 
 module _ (page : List ℕ) (w limit : ℕ) where
   -- four entries, and the next four
-  pub two-fours : (o : ℕ) → (someBelow 4 (λ j. leb limit (field lowFirst page (o + j * w) w)) || someBelow 4 (λ j. leb limit (field lowFirst page (o + 4 * w + j * w) w)))
+  pub two-fours : (o : ℕ)
+      → (someBelow 4 (λ j. leb limit (field lowFirst page (o + j * w) w))
+      || someBelow 4 (λ j. leb limit (field lowFirst page (o + 4 * w + j * w) w)))
       ≡ someBelow 8 (λ j. leb limit (field lowFirst page (o + j * w) w))
   two-fours o =
       let place : (j : ℕ) → o + 4 * w + j * w ≡ o + (4 + j) * w = λ j. omega (arith, add-mul 4 j w) in
       let t : ℕ → Bool = λ j. leb limit (field lowFirst page (o + j * w) w) in
-      ap (λ (b : Bool). someBelow 4 t || b) (some-ext 4 (λ j l. ap (λ (k : ℕ). leb limit (field lowFirst page k w)) (place j)))
+      ap (λ (b : Bool). someBelow 4 t || b)
+      (some-ext 4 (λ j l. ap (λ (k : ℕ). leb limit (field lowFirst page k w)) (place j)))
       ∙ some-add 4 4 t
 
   -- g groups from byte `start` on, and the next, which begins at byte `at`
   pub next-group : (start g at : ℕ) → at ≡ start + g * w
-      → (someBelow (8 * g) (λ k. leb limit (field lowFirst page (8 * start + k * w) w)) || someBelow 8 (λ j. leb limit (field lowFirst page (8 * at + j * w) w)))
+      → (someBelow (8 * g) (λ k. leb limit (field lowFirst page (8 * start + k * w) w))
+      || someBelow 8 (λ j. leb limit (field lowFirst page (8 * at + j * w) w)))
       ≡ someBelow (8 * (g + 1)) (λ k. leb limit (field lowFirst page (8 * start + k * w) w))
   next-group start g at e =
-      let place : (j : ℕ) → 8 * at + j * w ≡ 8 * start + (8 * g + j) * w = λ j. omega (arith, add-mul (8 * g) j w, mul-assoc 8 g w) in
+      let place : (j : ℕ) → 8 * at + j * w ≡ 8 * start + (8 * g + j) * w =
+      λ j. omega (arith, add-mul (8 * g) j w, mul-assoc 8 g w) in
       let t : ℕ → Bool = λ k. leb limit (field lowFirst page (8 * start + k * w) w) in
       let more : 8 * g + 8 ≡ 8 * (g + 1) = omega arith in
-      ap (λ (b : Bool). someBelow (8 * g) t || b) (some-ext 8 (λ j l. ap (λ (k : ℕ). leb limit (field lowFirst page k w)) (place j)))
+      ap (λ (b : Bool). someBelow (8 * g) t || b)
+      (some-ext 8 (λ j l. ap (λ (k : ℕ). leb limit (field lowFirst page k w)) (place j)))
       ∙ some-add (8 * g) 8 t
       ∙ ap (λ (k : ℕ). someBelow k t) more
 

@@ -22,15 +22,18 @@ ranged-large : (limit x : ℕ) → x < 4294967296 → ranged (rangeTo 0 limit tr
 ranged-large limit x h = ranged-to 0 limit true x h ∙ rw (le-ltb x 0 (omega arith)) (sym (not-ltb limit x))
 
 -- of the m entries from byte `start` on, some are selected where one or more bits are set
-pub some-selected : (marks page : List ℕ) (start n w m limit : ℕ) → m * w ≤ 8 * n → w ≤ 32
-    → ltb 0 (countOnes (take (ceil m 8) (put marks 0 (selected (take n (drop start page)) m w (ranged (rangeTo 0 limit true))))))
+pub some-selected : (scratch page : List ℕ) (start n w m limit : ℕ) → m * w ≤ 8 * n → w ≤ 32
+    → ltb 0
+    (countOnes
+    (take (ceil m 8) (put scratch 0 (selected (take n (drop start page)) m w (ranged (rangeTo 0 limit true))))))
     ≡ someBelow m (λ k. leb limit (field lowFirst page (8 * start + k * w) w))
 unfolding selected
-some-selected marks page start n w m limit fits narrow =
+some-selected scratch page start n w m limit fits narrow =
     let part : List ℕ = take n (drop start page) in
     let test : ℕ → Bool = λ k. ranged (rangeTo 0 limit true) (entry lowFirst part w k) in
     let same : (k : ℕ) → k < m → test k ≡ leb limit (field lowFirst page (8 * start + k * w) w) =
-    λ k l. ranged-large limit (entry lowFirst part w k) (field-small part (k * w) w narrow) ∙ ap (leb limit) (field-window page start n (k * w) w (omega (arith, place-within w k m l))) in
-    ap (λ (l : List ℕ). ltb 0 (countOnes l)) (take-bitmap marks m test)
+    λ k l. ranged-large limit (entry lowFirst part w k) (field-small part (k * w) w narrow) ∙ ap (leb limit)
+    (field-window page start n (k * w) w (omega (arith, place-within w k m l))) in
+    ap (λ (l : List ℕ). ltb 0 (countOnes l)) (take-bitmap scratch m test)
     ∙ ap (ltb 0) (count-bitmap m test ∙ tally-ext m same)
     ∙ sym (tally-some m (λ k. leb limit (field lowFirst page (8 * start + k * w) w)))

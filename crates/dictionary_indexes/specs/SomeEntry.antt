@@ -32,7 +32,8 @@ seeks test i m value found = found || someBelow m (λ k. test (value k))
 unfoldable pub sought : (ℕ → Bool) → ℕ → ℕ → List ℕ → Bool
 sought test w n page = pass (written n (seeks test) w) w n page false
 
-pub sought-pass : (test : ℕ → Bool) (w n : ℕ) (page : List ℕ) → sought test w n page ≡ pass (written n (seeks test) w) w n page false
+pub sought-pass : (test : ℕ → Bool) (w n : ℕ) (page : List ℕ)
+    → sought test w n page ≡ pass (written n (seeks test) w) w n page false
 unfolding sought
 sought-pass test w n page = refl
 
@@ -45,30 +46,40 @@ sought-read test w n page none = go (accepted w n page .0 none .0) (accepted w n
     holding : ℕ → (ℕ → ℕ) → Bool
     holding i f = someBelow i (λ k. test (f k))
 
-    grows : (i m : ℕ) (f value : ℕ → ℕ) → i + m ≤ n → ((k : ℕ) → k < m → value k ≡ f (i + k)) → seeks test i m value (holding i f) ≡ holding (i + m) f
-    grows i m f value fits e = ap (λ (t : Bool). holding i f || t) (some-ext m (λ k h. ap test (e k h))) ∙ some-add i m (λ k. test (f k))
+    grows : (i m : ℕ) (f value : ℕ → ℕ) → i + m ≤ n → ((k : ℕ) → k < m → value k ≡ f (i + k))
+        → seeks test i m value (holding i f) ≡ holding (i + m) f
+    grows i m f value fits e =
+        ap (λ (t : Bool). holding i f || t) (some-ext m (λ k h. ap test (e k h))) ∙ some-add i m (λ k. test (f k))
 
-    go : (ps : List Piece) → Cut w n page ps → pass (written n (seeks test) w) w n page false ≡ someBelow n (λ i. test (streamEntry w (read w n page) i))
+    go : (ps : List Piece) → Cut w n page ps
+        → pass (written n (seeks test) w) w n page false ≡ someBelow n (λ i. test (streamEntry w (read w n page) i))
     go ps cut =
         pass-cut (written n (seeks test) w) w n page ps false cut
-        ∙ covers n (seeks test) w holding grows n 0 page ps (λ i. getD (cutEntries w ps) i 0) cut (omega arith) (λ k h. ap (λ (i : ℕ). getD (cutEntries w ps) i 0) (omega arith))
+        ∙ covers n (seeks test) w holding grows n 0 page ps (λ i. getD (cutEntries w ps) i 0) cut (omega arith)
+        (λ k h. ap (λ (i : ℕ). getD (cutEntries w ps) i 0) (omega arith))
         ∙ ap (λ s. someBelow n (λ i. test (streamEntry w s i))) (sym (exact w n page ps .1 cut))
 
 -- ---- a turn
 
 module _ (test : ℕ → Bool) where
   -- a repeated run
-  pub seeks-same : (i m value : ℕ) (found : Bool) {new : Bool} → 0 < m → new ≡ (found || test value) → new ≡ seeks test i m (λ _. value) found
+  pub seeks-same : (i m value : ℕ) (found : Bool) {new : Bool} → 0 < m → new ≡ (found || test value)
+      → new ≡ seeks test i m (λ _. value) found
   seeks-same i m value found h e = e ∙ ap (λ (t : Bool). found || t) (sym (some-same m (test value) h))
 
   -- a packed run, of the entries as they lie in the page
-  pub seeks-body : (page : List ℕ) (w start groups left i m : ℕ) (found here : Bool) {new : Bool} → m ≡ min (8 * groups) left
+  pub seeks-body : (page : List ℕ) (w start groups left i m : ℕ) (found here : Bool) {new : Bool}
+      → m ≡ min (8 * groups) left
       → here ≡ someBelow m (λ k. test (field lowFirst page (8 * start + k * w) w)) → new ≡ (found || here)
       → new ≡ seeks test i (min (8 * groups) left) (entry lowFirst (take (w * groups) (drop start page)) w) found
   seeks-body page w start groups left i m found here few e f =
       let fits : m * w ≤ 8 * (w * groups) = body-fits w groups m (omega arith) in
       f
-      ∙ ap (λ (t : Bool). found || t) (e ∙ some-ext m (λ k l. ap test (sym (field-window page start (w * groups) (k * w) w (omega (arith, place-within w k m l))))))
+      ∙ ap (λ (t : Bool). found || t)
+      (e
+      ∙ some-ext m
+      (λ k l. ap test
+      (sym (field-window page start (w * groups) (k * w) w (omega (arith, place-within w k m l))))))
       ∙ ap (λ (k : ℕ). seeks test i k (entry lowFirst (take (w * groups) (drop start page)) w) found) few
 
 -- ---- the code is what judging on from here gives, where i entries of n are covered
@@ -90,22 +101,29 @@ module _ (w n : ℕ) (page : List ℕ) where
       subst (λ (left : ℕ). Comes judge (streamFault (read w n page)) w left page 0 tt) all (judge-comes w n page)
 
   module _ {at i : ℕ} (some : i < n) (comes : judging at i) where
-    pub judging-repeated : {count value next : ℕ} → runAt w (n - i) page at ≡ Repeated count value next → judging next (i + count)
+    pub judging-repeated : {count value next : ℕ} → runAt w (n - i) page at ≡ Repeated count value next
+        → judging next (i + count)
     judging-repeated {count} {value} {next} q =
         let rest : n - i - count ≡ n - (i + count) = omega arith in
-        subst (λ (left : ℕ). Comes judge (streamFault (read w n page)) w left page next tt) rest (on-repeated judge (omega arith) comes q)
+        subst (λ (left : ℕ). Comes judge (streamFault (read w n page)) w left page next tt) rest
+        (on-repeated judge (omega arith) comes q)
 
-    pub judging-packed : {groups start next : ℕ} → runAt w (n - i) page at ≡ Packed groups start next → judging next (i + 8 * groups)
+    pub judging-packed : {groups start next : ℕ} → runAt w (n - i) page at ≡ Packed groups start next
+        → judging next (i + 8 * groups)
     judging-packed {groups} {start} {next} q =
         let rest : n - i - 8 * groups ≡ n - (i + 8 * groups) = omega arith in
-        subst (λ (left : ℕ). Comes judge (streamFault (read w n page)) w left page next tt) rest (on-packed judge (omega arith) comes q)
+        subst (λ (left : ℕ). Comes judge (streamFault (read w n page)) w left page next tt) rest
+        (on-packed judge (omega arith) comes q)
 
-    pub judging-refused : {code : ℕ} (other : ℕ) → runAt w (n - i) page at ≡ Refused code → (streamFault (read w n page) then other) ≡ code
+    pub judging-refused : {code : ℕ} (other : ℕ) → runAt w (n - i) page at ≡ Refused code
+        → (streamFault (read w n page) then other) ≡ code
     judging-refused other q =
         let left : 0 < n - i = omega arith in
         then-found _ other _ (on-refused judge left comes q) (λ z. omega (arith, some-code w (n - i) page at q))
 
   -- no fault: what was found decides
   pub then-sought : (test : ℕ → Bool) (found : Bool) → streamFault (read w n page) ≡ 0 → sought test w n page ≡ found
-      → (streamFault (read w n page) then faulty (someBelow n (λ i. test (streamEntry w (read w n page) i))) 15) ≡ faulty found 15
-  then-sought test found none e = then-none _ _ none ∙ ap (λ (t : Bool). faulty t 15) (sym (sought-read test w n page none) ∙ e)
+      → (streamFault (read w n page) then faulty (someBelow n (λ i. test (streamEntry w (read w n page) i))) 15)
+      ≡ faulty found 15
+  then-sought test found none e =
+      then-none _ _ none ∙ ap (λ (t : Bool). faulty t 15) (sym (sought-read test w n page none) ∙ e)

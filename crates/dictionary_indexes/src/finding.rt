@@ -1,4 +1,5 @@
-// Whether one is found by a loop that goes to its end: no turn is left early, so that the compiler may take several at once.
+// Whether one is found by a loop that goes to its end: no turn is left early, so that the compiler may take
+// several at once.
 ghost use mathlib.Core.Path.{_≡_};
 ghost use mathlib.Core.Bool.{_||_};
 

@@ -5,7 +5,6 @@ use Prim.Native.Nat.{ℕ, _<_}
 use native.Mathlib.Omega.{arith}
 use lib.Dec.{leb}
 use borrow.Author.Tests.{leb-false}
-use Rattle.rules.specs.Answer.{_then_}
 use Rattle.rules.specs.Runs.{streamFault}
 use Rattle.rules.specs.Dictionary.{count, dictionaryFault, indexes, indexAt, indexFault, columnFault}
 use Rattle.words.specs.SomeBelow.{below-none}

@@ -49,11 +49,13 @@ place-within equal dict z = tally-le (count dict) (λ k. precedes equal z (value
 
 module _ (dict : List ℕ) (good : dictionaryFault dict ≡ 0) where
   -- the values that precede z are the first ones
-  pub precedes-place : (equal : Bool) (z : ℤ) (k : ℕ) → k < count dict → ltb k (placeOf equal dict z) ≡ precedes equal z (value dict k)
+  pub precedes-place : (equal : Bool) (z : ℤ) (k : ℕ) → k < count dict
+      → ltb k (placeOf equal dict z) ≡ precedes equal z (value dict k)
   unfolding placeOf
   precedes-place equal z k h =
       tally-first (count dict) (λ i. precedes equal z (value dict i))
-      (λ i j l m e. precedes-down equal (value dict i) (value dict j) z (ascends dict (good-dictionary dict good .ordered) i j (omega arith) m) e)
+      (λ i j l m e. precedes-down equal (value dict i) (value dict j) z
+      (ascends dict (good-dictionary dict good .ordered) i j (omega arith) m) e)
       k h
 
   pub place-le : (equal : Bool) (z : ℤ) → placeOf equal dict z ≤ 16384
@@ -64,8 +66,10 @@ module _ (dict : List ℕ) (good : dictionaryFault dict ≡ 0) where
   index-whole band = to-whole _ _ (band .outside) (omega (arith, place-le true (band .high)))
 
   -- an index is selected where its value is
-  pub ranged-index : (band : Band) (k : ℕ) → k < count dict → ranged (indexRange dict band) k ≡ banded band (value dict k)
+  pub ranged-index : (band : Band) (k : ℕ) → k < count dict
+      → ranged (indexRange dict band) k ≡ banded band (value dict k)
   unfolding indexRange
   ranged-index band k h =
-      ranged-ends band (placeOf false dict (band .low)) (placeOf true dict (band .high)) k (value dict k) (omega (arith, good-dictionary dict good .short))
+      ranged-ends band (placeOf false dict (band .low)) (placeOf true dict (band .high)) k (value dict k)
+      (omega (arith, good-dictionary dict good .short))
       (sym (precedes-place false (band .low) k h)) (sym (precedes-place true (band .high) k h))

@@ -40,20 +40,30 @@ pub record Good (dict : List ℕ) : Type 0 where
 pub good-dictionary : (dict : List ℕ) → dictionaryFault dict ≡ 0 → Good dict
 unfolding dictionaryFault
 good-dictionary dict e =
-    let f = neither (not (eqb (length dict % 4) 0) || ltb 65536 (length dict)) (unordered dict) (not-faulty _ 14 (λ z. omega arith) e) in
+    let f =
+    neither (not (eqb (length dict % 4) 0) || ltb 65536 (length dict)) (unordered dict)
+    (not-faulty _ 14 (λ z. omega arith) e) in
     let g = neither (not (eqb (length dict % 4) 0)) (ltb 65536 (length dict)) (f .0) in
-    record { whole = eqb-true (length dict % 4) 0 (not-false _ (g .0)); short = ltb-false 65536 (length dict) (g .1); ordered = f .1 }
+    record {
+      whole = eqb-true (length dict % 4) 0 (not-false _ (g .0));
+      short = ltb-false 65536 (length dict) (g .1);
+      ordered = f .1;
+    }
 
 -- a later value is no smaller
-pub ascends : (dict : List ℕ) → unordered dict ≡ false → (j k : ℕ) → j ≤ k → k < count dict → leZ (value dict j) (value dict k) ≡ true
+pub ascends : (dict : List ℕ) → unordered dict ≡ false → (j k : ℕ) → j ≤ k → k < count dict
+    → leZ (value dict j) (value dict k) ≡ true
 unfolding unordered
 ascends dict e j zero l h = let z : j ≡ 0 = omega arith in rw z (leZ-refl (value dict 0))
 ascends dict e j (suc k) l h = go (λ m. ascends dict e j k m (omega arith)) (ltb k j) refl
   where
     next : leZ (value dict k) (value dict (suc k)) ≡ true
-    next = leZ-total (value dict (suc k)) (value dict k) (below-none (count dict - 1) (λ i. leZ (value dict (suc i)) (value dict i)) e k (omega arith))
+    next =
+        leZ-total (value dict (suc k)) (value dict k)
+        (below-none (count dict - 1) (λ i. leZ (value dict (suc i)) (value dict i)) e k (omega arith))
 
-    go : (j ≤ k → leZ (value dict j) (value dict k) ≡ true) → (t : Bool) → ltb k j ≡ t → leZ (value dict j) (value dict (suc k)) ≡ true
+    go : (j ≤ k → leZ (value dict j) (value dict k) ≡ true) → (t : Bool) → ltb k j ≡ t
+        → leZ (value dict j) (value dict (suc k)) ≡ true
     go before true f = let z : j ≡ suc k = omega (arith, ltb-true k j f) in rw z (leZ-refl (value dict (suc k)))
     go before false f = leZ-trans (value dict j) (value dict k) (value dict (suc k)) (before (ltb-false k j f)) next
 
@@ -61,14 +71,18 @@ ascends dict e j (suc k) l h = go (λ m. ascends dict e j k m (omega arith)) (lt
 
 module _ {A : Type 0} (value : ℕ → A) where
   -- of the indexes in front of a list
-  pub listed : (l : List ℕ) (m : ℕ) (f : ℕ → ℕ) → tabulate m (λ k. value (getD (put l 0 (tabulate m f)) k 0)) ≡ tabulate m (λ k. value (f k))
+  pub listed : (l : List ℕ) (m : ℕ) (f : ℕ → ℕ)
+      → tabulate m (λ k. value (getD (put l 0 (tabulate m f)) k 0)) ≡ tabulate m (λ k. value (f k))
   unfolding put
   listed l m f =
       tabulate-ext m (λ k. value (getD (put l 0 (tabulate m f)) k 0)) (λ k. value (f k))
-      (λ k h. ap value (List·getD-append (tabulate m f) (drop (0 + length (tabulate m f)) l) 0 k (rw (length-tabulate m f) h) ∙ getD-tabulate m f k 0 h))
+      (λ k h. ap value
+      (List·getD-append (tabulate m f) (drop (0 + length (tabulate m f)) l) 0 k (rw (length-tabulate m f) h)
+      ∙ getD-tabulate m f k 0 h))
 
   -- i of them are in place, and m more, which begin at byte `from`, are put behind them
-  pub looked-on : (page : List ℕ) (out before after : List A) (p i m from start w : ℕ) → 8 * from ≡ 8 * start + i * w → p + i + m ≤ length out
+  pub looked-on : (page : List ℕ) (out before after : List A) (p i m from start w : ℕ)
+      → 8 * from ≡ 8 * start + i * w → p + i + m ≤ length out
       → before ≡ put out p (tabulate i (λ k. value (field lowFirst page (8 * start + k * w) w)))
       → after ≡ put before (p + i) (tabulate m (λ k. value (field lowFirst page (8 * from + k * w) w)))
       → after ≡ put out p (tabulate (i + m) (λ k. value (field lowFirst page (8 * start + k * w) w)))
@@ -77,5 +91,6 @@ module _ {A : Type 0} (value : ℕ → A) where
       let place : (k : ℕ) → 8 * from + k * w ≡ 8 * start + (i + k) * w = λ k. omega (arith, add-mul i k w) in
       f
       ∙ ap₂ (λ (l vs : List A). put l (p + i) vs) e
-      (tabulate-ext m (λ k. value (field lowFirst page (8 * from + k * w) w)) (λ k. v (i + k)) (λ k h. ap (λ (b : ℕ). value (field lowFirst page b w)) (place k)))
+      (tabulate-ext m (λ k. value (field lowFirst page (8 * from + k * w) w)) (λ k. v (i + k))
+      (λ k h. ap (λ (b : ℕ). value (field lowFirst page b w)) (place k)))
       ∙ put-tabulate-on out p i m v room

@@ -1,10 +1,8 @@
 // The faults of a dictionary column: judged before a place is written.
 ghost use mathlib.Core.Path.{_≡_};
 ghost use Prim.Native.Nat.{_≤_};
-ghost use Rattle.rules.specs.Answer.{_then_, roomFault};
 ghost use Rattle.rules.specs.Dictionary as Dictionary;
 use crate::values::value_at;
-use answers::room_fault;
 use dictionary_indexes::finding::either;
 use dictionary_indexes::index_page::page_fault;
 
@@ -22,7 +20,8 @@ fn unordered(dict: &[u8]) -> bool
     found
 }
 
-// 14, where the length is no multiple of 4 or over 65,536 bytes, before any value is read, or the values do not ascend.
+// 14, where the length is no multiple of 4 or over 65,536 bytes, before any value is read, or the values do
+// not ascend.
 pub fn dictionary_fault(dict: &[u8]) -> u32
     ensures { λ r. ⌜ r ≡ Dictionary.dictionaryFault (now (dict .entry)) ⌝ }
 {
@@ -38,15 +37,11 @@ pub fn dictionary_fault(dict: &[u8]) -> u32
     0
 }
 
-// 4, where the output has fewer places than are needed, 14, the index page in reading order, and 15 only if that page is otherwise good.
-pub fn column_fault(dict: &[u8], page: &[u8], n: usize, places: usize, need: usize) -> u32
+// 14, the index page in reading order, and 15 only if that page is otherwise good.
+pub fn column_fault(dict: &[u8], page: &[u8], n: usize) -> u32
     requires { ⌜ n ≤ 16384 ⌝ }
-    ensures { λ r. ⌜ r ≡ (roomFault places need then Dictionary.columnFault (now (dict .entry)) n (now (page .entry))) ⌝ }
+    ensures { λ r. ⌜ r ≡ Dictionary.columnFault (now (dict .entry)) n (now (page .entry)) ⌝ }
 {
-    let room = room_fault(places, need);
-    if room != 0 {
-        return room;
-    }
     let dictionary = dictionary_fault(dict);
     if dictionary != 0 {
         return dictionary;

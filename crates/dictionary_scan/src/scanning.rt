@@ -9,19 +9,31 @@ ghost use Rattle.rules.specs.Dictionary as Dictionary;
 ghost use Rattle.compare.specs.Band.{banded};
 use crate::judging::column_fault;
 use crate::searching::index_range;
+use answers::first_fault;
 use answers::refused;
+use answers::room_fault;
 use arguments::Arguments;
 use arguments::signed_arguments_of;
 use compare::bands::Band;
 use dictionary_indexes::index_page::scan_range;
 use rules::Answer;
 
-// By its band: the column is judged, then the constants' places are found once, and the index page is scanned by them.
+// By its band: the column is judged, then the constants' places are found once, and the index page is
+// scanned by them.
 fn scan_band(dict: &[u8], page: &[u8], n: usize, band: Band, bitmap: &mut [u8]) -> Answer
     requires { ⌜ n ≤ 16384 ⌝ }
-    ensures { λ r. ⌜ outcome r (now (bitmap .exit)) ≡ scanned (roomFault (length (now (bitmap .entry))) (ceil n 8) then Dictionary.columnFault (now (dict .entry)) n (now (page .entry))) n (λ i. banded band (Dictionary.value (now (dict .entry)) (Dictionary.indexAt n (now (page .entry)) i))) (now (bitmap .entry)) ⌝ }
+    ensures { λ r. ⌜ outcome r (now (bitmap .exit))
+        ≡ scanned
+        (roomFault (length (now (bitmap .entry))) (ceil n 8)
+        then Dictionary.columnFault (now (dict .entry)) n (now (page .entry))) n
+        (λ i. banded band
+        (Dictionary.value (now (dict .entry)) (Dictionary.indexAt n (now (page .entry)) i)))
+        (now (bitmap .entry)) ⌝ }
 {
-    let code = column_fault(dict, page, n, bitmap.len(), (n + 7) / 8);
+    let code = first_fault(
+        room_fault(bitmap.len(), (n + 7) / 8),
+        column_fault(dict, page, n),
+    );
     if code != 0 {
         return refused(code);
     }
@@ -37,7 +49,8 @@ pub fn scan(
     b: i64,
     bitmap: &mut [u8],
 ) -> Answer
-    ensures { λ r. ⌜ outcome r (now (bitmap .exit)) ≡ Dictionary.scan (now (dict .entry)) (now (page .entry)) n op a b (now (bitmap .entry)) ⌝ }
+    ensures { λ r. ⌜ outcome r (now (bitmap .exit))
+        ≡ Dictionary.scan (now (dict .entry)) (now (page .entry)) n op a b (now (bitmap .entry)) ⌝ }
 {
     let arguments = signed_arguments_of(n, op, a, b);
     match arguments {

@@ -17,7 +17,8 @@ fn is_before(x: i32, z: i64, equal: bool) -> bool
     (x as i64) < z
 }
 
-// How many values are below z, or where `equal` counts too at most z: they ascend, so half of those left are passed over at a time.
+// How many values are below z, or where `equal` counts too at most z: they ascend, so half of those left
+// are passed over at a time.
 fn place_of(dict: &[u8], z: i64, equal: bool) -> usize
     requires { ⌜ dictionaryFault (now dict) ≡ 0 ⌝ }
     ensures { λ r. ⌜ r ≡ placeOf equal (now (dict .entry)) z ⌝ }
@@ -35,7 +36,8 @@ fn place_of(dict: &[u8], z: i64, equal: bool) -> usize
     from
 }
 
-// The indexes whose values the band selects: from the first value that is not below its low end, up to those at most its high end.
+// The indexes whose values the band selects: from the first value that is not below its low end, up to
+// those at most its high end.
 pub fn index_range(dict: &[u8], band: Band) -> Range
     requires { ⌜ dictionaryFault (now dict) ≡ 0 ⌝ }
     ensures { λ r. ⌜ r ≡ indexRange (now (dict .entry)) band ⌝ }

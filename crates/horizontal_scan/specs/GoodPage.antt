@@ -13,7 +13,8 @@ use Rattle.rules.specs.Horizontal.{pageBytes, unused, pageFault}
 use Rattle.answers.specs.Laws.{then-zero, not-faulty}
 
 -- its length is exact, and its unused bits are 0
-pub good-page : (o : Order) (page : List ℕ) (w n : ℕ) → pageFault o page w n ≡ 0 → (length page ≡ pageBytes w n) × (unused o page w n ≡ 0)
+pub good-page : (o : Order) (page : List ℕ) (w n : ℕ) → pageFault o page w n ≡ 0
+    → (length page ≡ pageBytes w n) × (unused o page w n ≡ 0)
 unfolding pageFault
 good-page o page w n e =
     let short = faulty (ltb (length page) (pageBytes w n)) 5 in

@@ -2,9 +2,7 @@
 ghost use mathlib.Core.Path.{_≡_};
 ghost use Prim.Native.Nat.{_≤_};
 ghost use Rattle.rules.specs.Bits.Order.{lowFirst};
-ghost use Rattle.rules.specs.Answer.{_then_, roomFault};
 ghost use Rattle.rules.specs.Horizontal.{pageFault};
-use answers::room_fault;
 use words::entries::entry_any;
 
 // 5, 6 or 7, or 0 where the page is good.
@@ -24,16 +22,4 @@ pub fn page_fault(page: &[u8], width: u32, n: usize) -> u32
         return 7;
     }
     0
-}
-
-// 4, where the output has fewer places than are needed, and then the page's faults.
-pub fn fault(page: &[u8], width: u32, n: usize, places: usize, need: usize) -> u32
-    requires { ⌜ (width ≤ 32) × (n ≤ 16384) ⌝ }
-    ensures { λ r. ⌜ r ≡ (roomFault places need then pageFault lowFirst (now (page .entry)) width n) ⌝ }
-{
-    let room = room_fault(places, need);
-    if room != 0 {
-        return room;
-    }
-    page_fault(page, width, n)
 }

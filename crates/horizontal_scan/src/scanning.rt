@@ -9,8 +9,10 @@ ghost use Rattle.rules.specs.Answer.{_then_, roomFault, scanned};
 ghost use Rattle.rules.specs.Answer.Outcome.{outcome};
 ghost use Rattle.rules.specs.Horizontal as Horizontal;
 ghost use Rattle.compare.specs.Band.{banded};
-use crate::judging::fault;
+use crate::judging::page_fault;
+use answers::first_fault;
 use answers::refused;
+use answers::room_fault;
 use arguments::Arguments;
 use arguments::arguments_of;
 use bitmaps::counted;
@@ -22,9 +24,16 @@ use rules::Answer;
 // By its band: the room and the page are judged, then the bitmap is written and counted.
 fn scan_band(page: &[u8], width: u32, n: usize, band: Band, bitmap: &mut [u8]) -> Answer
     requires { ⌜ (width ≤ 32) × (n ≤ 16384) ⌝ }
-    ensures { λ r. ⌜ outcome r (now (bitmap .exit)) ≡ scanned (roomFault (length (now (bitmap .entry))) (ceil n 8) then Horizontal.pageFault lowFirst (now (page .entry)) width n) n (λ i. banded band (pos (entry lowFirst (now (page .entry)) width i))) (now (bitmap .entry)) ⌝ }
+    ensures { λ r. ⌜ outcome r (now (bitmap .exit))
+        ≡ scanned
+        (roomFault (length (now (bitmap .entry))) (ceil n 8)
+        then Horizontal.pageFault lowFirst (now (page .entry)) width n) n
+        (λ i. banded band (pos (entry lowFirst (now (page .entry)) width i))) (now (bitmap .entry)) ⌝ }
 {
-    let code = fault(page, width, n, bitmap.len(), (n + 7) / 8);
+    let code = first_fault(
+        room_fault(bitmap.len(), (n + 7) / 8),
+        page_fault(page, width, n),
+    );
     if code != 0 {
         return refused(code);
     }
@@ -33,7 +42,8 @@ fn scan_band(page: &[u8], width: u32, n: usize, band: Band, bitmap: &mut [u8]) -
 }
 
 pub fn scan(page: &[u8], width: u32, n: usize, op: u32, a: i64, b: i64, bitmap: &mut [u8]) -> Answer
-    ensures { λ r. ⌜ outcome r (now (bitmap .exit)) ≡ Horizontal.scan lowFirst (now (page .entry)) width n op a b (now (bitmap .entry)) ⌝ }
+    ensures { λ r. ⌜ outcome r (now (bitmap .exit))
+        ≡ Horizontal.scan lowFirst (now (page .entry)) width n op a b (now (bitmap .entry)) ⌝ }
 {
     let arguments = arguments_of(width, n, op, a, b);
     match arguments {

@@ -17,7 +17,8 @@ pub laid-laid : (text a b : List ℕ) → laid (laid text a) b ≡ laid text (a 
 unfolding laid
 laid-laid text a b = take-more 120 (text ++ a) b ∙ ap (λ l. take 120 l) (append-assoc text a b)
 
-pub three : (text : List ℕ) (a b c : ℕ) → laid (laid (laid text (a ∷ [])) (b ∷ [])) (c ∷ []) ≡ laid text (a ∷ b ∷ c ∷ [])
+pub three : (text : List ℕ) (a b c : ℕ)
+    → laid (laid (laid text (a ∷ [])) (b ∷ [])) (c ∷ []) ≡ laid text (a ∷ b ∷ c ∷ [])
 three text a b c = ap (λ t. laid t (c ∷ [])) (laid-laid text (a ∷ []) (b ∷ [])) ∙ laid-laid text (a ∷ b ∷ []) (c ∷ [])
 
 take-replicate : (n m a : ℕ) → n ≤ m → take n (replicate m a) ≡ replicate n a
@@ -41,16 +42,22 @@ module _ (text : List ℕ) (used : ℕ) (long : length text ≡ 120) where
 
   pub none : take used text ≡ laid (take used text) []
   unfolding laid
-  none = sym (ap (λ l. take 120 l) (append-nil (take used text)) ∙ take-all 120 (take used text) (omega (arith, length-take used text)))
+  none =
+      sym
+      (ap (λ l. take 120 l) (append-nil (take used text))
+      ∙ take-all 120 (take used text) (omega (arith, length-take used text)))
 
   pub one : (b : ℕ) → used < 120 → take (used + 1) (set text used b) ≡ laid (take used text) (b ∷ [])
   unfolding laid
   one b h =
       rw (add-one used, take-suc-set text used b (omega arith))
-      (sym (take-all 120 (take used text ++ (b ∷ [])) (omega (arith, length-append (take used text) (b ∷ []), length-take used text))))
+      (sym
+      (take-all 120 (take used text ++ (b ∷ []))
+      (omega (arith, length-append (take used text) (b ∷ []), length-take used text))))
 
   -- the blanks that are missing up to a place
-  pub padded : (at k : ℕ) → k ≡ min at 120 - used → laid (take used text) (take k (replicate 120 32)) ≡ laid (take used text) (padding at (take used text))
+  pub padded : (at k : ℕ) → k ≡ min at 120 - used
+      → laid (take used text) (take k (replicate 120 32)) ≡ laid (take used text) (padding at (take used text))
   unfolding padding
   padded at k e =
       let same : k ≡ min at 120 - length (take used text) = omega (arith, length-take used text) in
@@ -58,7 +65,8 @@ module _ (text : List ℕ) (used : ℕ) (long : length text ≡ 120) where
 
 -- ---- lists
 
-pub next : (held text : List ℕ) (words : List ℕ) (i : ℕ) → i < length words → text ≡ laid held (take i words) → laid text (getD words i 0 ∷ []) ≡ laid held (take (i + 1) words)
+pub next : (held text : List ℕ) (words : List ℕ) (i : ℕ) → i < length words → text ≡ laid held (take i words)
+    → laid text (getD words i 0 ∷ []) ≡ laid held (take (i + 1) words)
 next held text words i h e =
     ap (λ t. laid t (getD words i 0 ∷ [])) e ∙ laid-laid held (take i words) (getD words i 0 ∷ [])
     ∙ ap (λ l. laid held l) (sym (ap (λ k. take k words) (add-one i) ∙ take-suc words i 0 h))
@@ -66,20 +74,25 @@ next held text words i h e =
 spelled-end : (f : ℕ → List ℕ) (l : List ℕ) (x : ℕ) → spelled f (l ++ (x ∷ [])) ≡ spelled f l ++ (32 ∷ f x)
 unfolding spelled
 spelled-end f [] x = append-nil (32 ∷ f x)
-spelled-end f (y ∷ l) x = ap (λ r. (32 ∷ f y) ++ r) (spelled-end f l x) ∙ sym (append-assoc (32 ∷ f y) (spelled f l) (32 ∷ f x))
+spelled-end f (y ∷ l) x =
+    ap (λ r. (32 ∷ f y) ++ r) (spelled-end f l x) ∙ sym (append-assoc (32 ∷ f y) (spelled f l) (32 ∷ f x))
 
 -- the first i of the n to be spelled stand behind what was held
 abbrev pub Spelt : (ℕ → List ℕ) → ℕ → List ℕ → List ℕ → ℕ → List ℕ → Type 0
 Spelt f n list held i text = (i ≤ n) × (i ≤ length list) × (text ≡ laid held (spelled f (take i list)))
 
 module _ (f : ℕ → List ℕ) (n : ℕ) (list held : List ℕ) (i : ℕ) (text : List ℕ) (so : Spelt f n list held i text) where
-  pub spelt-next : (more : List ℕ) → i < n → i < length list → more ≡ laid text (32 ∷ f (getD list i 0)) → Spelt f n list held (i + 1) more
+  pub spelt-next : (more : List ℕ) → i < n → i < length list → more ≡ laid text (32 ∷ f (getD list i 0))
+      → Spelt f n list held (i + 1) more
   spelt-next more h k e = (
     omega arith,
     omega arith,
-    e ∙ ap (λ t. laid t (32 ∷ f (getD list i 0))) (so .2) ∙ laid-laid held (spelled f (take i list)) (32 ∷ f (getD list i 0))
+    e ∙ ap (λ t. laid t (32 ∷ f (getD list i 0))) (so .2)
+        ∙ laid-laid held (spelled f (take i list)) (32 ∷ f (getD list i 0))
         ∙ ap (λ l. laid held l)
-        (sym (ap (λ k. spelled f (take k list)) (add-one i) ∙ ap (λ l. spelled f l) (take-suc list i 0 k) ∙ spelled-end f (take i list) (getD list i 0))),
+        (sym
+        (ap (λ k. spelled f (take k list)) (add-one i) ∙ ap (λ l. spelled f l) (take-suc list i 0 k)
+        ∙ spelled-end f (take i list) (getD list i 0))),
   )
 
   pub spelt-all : n ≤ i → text ≡ laid held (spelled f (take n list))

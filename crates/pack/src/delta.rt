@@ -12,7 +12,8 @@ use rules::Answer;
 
 // No miniblock needs more than 32 bits, so 17 is never given.
 pub fn pack(entries: &[i32], page: &mut [u8]) -> Answer
-    ensures { λ r. ⌜ outcome r (now (page .exit)) ≡ DeltaWriter.pack 32 (now (entries .entry)) (now (page .entry)) ⌝ }
+    ensures { λ r. ⌜ outcome r (now (page .exit))
+        ≡ DeltaWriter.pack 32 (now (entries .entry)) (now (page .entry)) ⌝ }
 {
     let limits = signed_fault(entries.len());
     if limits != 0 {

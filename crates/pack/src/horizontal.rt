@@ -10,7 +10,8 @@ use packed_entries::judging::entries_fault;
 use rules::Answer;
 
 pub fn pack(entries: &[u32], width: u32, page: &mut [u8]) -> Answer
-    ensures { λ r. ⌜ outcome r (now (page .exit)) ≡ Horizontal.pack lowFirst (now (entries .entry)) width (now (page .entry)) ⌝ }
+    ensures { λ r. ⌜ outcome r (now (page .exit))
+        ≡ Horizontal.pack lowFirst (now (entries .entry)) width (now (page .entry)) ⌝ }
 {
     let n = entries.len();
     let limits = unsigned_fault(width, n);

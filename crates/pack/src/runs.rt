@@ -11,7 +11,8 @@ use runs_write::sizes::stream_size;
 use runs_write::writing::put_stream;
 
 pub fn pack(entries: &[u32], width: u32, page: &mut [u8]) -> Answer
-    ensures { λ r. ⌜ outcome r (now (page .exit)) ≡ RunWriter.pack (now (entries .entry)) width (now (page .entry)) ⌝ }
+    ensures { λ r. ⌜ outcome r (now (page .exit))
+        ≡ RunWriter.pack (now (entries .entry)) width (now (page .entry)) ⌝ }
 {
     let limits = unsigned_fault(width, entries.len());
     if limits != 0 {

@@ -15,8 +15,10 @@ use vertical_turn::packing::pack_group;
 
 // Group g, from its own entries into its own planes; a lane past the list's end is 0.
 fn pack_one(entries: &[u32], w: usize, g: usize, words: &mut [u64])
-    requires { ⌜ (w ≤ 32) × (length (now entries) ≤ 16384) × (64 * g < length (now entries)) × (g * w + w ≤ length (now words)) ⌝ }
-    ensures { λ _. ⌜ now (words .exit) ≡ put (now (words .entry)) (g * w) (tabulate w (Vertical.plane w (now (entries .entry)) g)) ⌝ }
+    requires { ⌜ (w ≤ 32) × (length (now entries) ≤ 16384) × (64 * g < length (now entries))
+        × (g * w + w ≤ length (now words)) ⌝ }
+    ensures { λ _. ⌜ now (words .exit)
+        ≡ put (now (words .entry)) (g * w) (tabulate w (Vertical.plane w (now (entries .entry)) g)) ⌝ }
 {
     let from = 64 * g;
     let to = from + entries_in_group(entries.len(), g);
@@ -25,8 +27,10 @@ fn pack_one(entries: &[u32], w: usize, g: usize, words: &mut [u64])
 }
 
 fn pack_groups(entries: &[u32], w: usize, words: &mut [u64])
-    requires { ⌜ (w ≤ 32) × (length (now entries) ≤ 16384) × (Vertical.pageWords w (length (now entries)) ≤ length (now words)) ⌝ }
-    ensures { λ _. ⌜ now (words .exit) ≡ put (now (words .entry)) 0 (Vertical.packed w (now (entries .entry))) ⌝ }
+    requires { ⌜ (w ≤ 32) × (length (now entries) ≤ 16384)
+        × (Vertical.pageWords w (length (now entries)) ≤ length (now words)) ⌝ }
+    ensures { λ _. ⌜ now (words .exit)
+        ≡ put (now (words .entry)) 0 (Vertical.packed w (now (entries .entry))) ⌝ }
 {
     let groups = (entries.len() + 63) / 64;
     let mut g: usize = 0;
@@ -37,7 +41,8 @@ fn pack_groups(entries: &[u32], w: usize, words: &mut [u64])
 }
 
 pub fn pack(entries: &[u32], width: u32, words: &mut [u64]) -> Answer
-    ensures { λ r. ⌜ outcome r (now (words .exit)) ≡ Vertical.pack (now (entries .entry)) width (now (words .entry)) ⌝ }
+    ensures { λ r. ⌜ outcome r (now (words .exit))
+        ≡ Vertical.pack (now (entries .entry)) width (now (words .entry)) ⌝ }
 {
     let n = entries.len();
     let limits = unsigned_fault(width, n);

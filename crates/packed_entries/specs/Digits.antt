@@ -1,8 +1,10 @@
--- A number's digits of d bits, over d: what numbers joined end to end hold at a place, and a number made again of its digits.
+-- A number's digits of d bits, over d: what numbers joined end to end hold at a place, and a number made again of
+-- its digits.
 use mathlib.Core.Path.{_≡_, refl, sym, ap, ap₂, _∙_}
 use mathlib.Core.List.{List, [], _∷_, _++_}
 use Prim.Native.Nat.{ℕ, zero, suc, _+_, _*_, _/_, _%_, _^_, _≤_, _<_}
-use native.Mathlib.Nat.{add-comm, add-mul, mul-assoc, mul-comm, suc-mul, zero-mul, div-one, mod-one, zero-div, zero-mod}
+use native.Mathlib.Nat.{add-comm, add-mul, mul-assoc, mul-comm, suc-mul, zero-mul, div-one, mod-one, zero-div}
+use native.Mathlib.Nat.{zero-mod}
 use native.Mathlib.Numerals.{add-one}
 use native.Mathlib.Omega.{arith}
 use lib.ListN.{length, take, drop, getD}
@@ -25,14 +27,17 @@ pub joined-append : (d : ℕ) (a b : List ℕ) → joined d (a ++ b) ≡ joined 
 unfolding joined
 joined-append d [] b = rw zero-mul (omega arith)
 joined-append d (x ∷ a) b =
-    let size : 2 ^ (suc (length a) * d) ≡ 2 ^ (length a * d) * 2 ^ d = ap (λ (n : ℕ). 2 ^ n) (suc-mul (length a) d) ∙ pow-add 2 (length a * d) d in
+    let size : 2 ^ (suc (length a) * d) ≡ 2 ^ (length a * d) * 2 ^ d =
+    ap (λ (n : ℕ). 2 ^ n) (suc-mul (length a) d) ∙ pow-add 2 (length a * d) d in
     rw (joined-append d a b, size, add-mul, mul-assoc) (omega arith)
 
 -- k numbers more, and one
-pub joined-more : (d i k : ℕ) (xs : List ℕ) → i ≤ length xs → joined d (take (i + k) xs) ≡ joined d (take k (drop i xs)) * 2 ^ (i * d) + joined d (take i xs)
+pub joined-more : (d i k : ℕ) (xs : List ℕ) → i ≤ length xs
+    → joined d (take (i + k) xs) ≡ joined d (take k (drop i xs)) * 2 ^ (i * d) + joined d (take i xs)
 joined-more d i k xs h = rw (take-add, joined-append, length-take-le i xs h) (omega arith)
 
-pub joined-next : (d : ℕ) (xs : List ℕ) (i : ℕ) → i < length xs → joined d (take (i + 1) xs) ≡ getD xs i 0 * 2 ^ (i * d) + joined d (take i xs)
+pub joined-next : (d : ℕ) (xs : List ℕ) (i : ℕ) → i < length xs
+    → joined d (take (i + 1) xs) ≡ getD xs i 0 * 2 ^ (i * d) + joined d (take i xs)
 unfolding joined
 joined-next d xs i h = rw (add-one, take-suc xs i 0 h, joined-append, length-take-le i xs (omega arith)) (omega arith)
 
@@ -47,7 +52,8 @@ pub joined-digit : (d : ℕ) (xs : List ℕ) (i : ℕ) → Small d xs → joined
 unfolding joined
 joined-digit d [] i h = rw (zero-div, zero-mod)
 joined-digit d (x ∷ xs) zero h = rw (first-digit, add-comm x) (low (joined d xs) d (h 0))
-joined-digit d (x ∷ xs) (suc i) h = rw (next-digit, add-comm x, high (joined d xs) d (h 0)) (joined-digit d xs i (λ k. h (suc k)))
+joined-digit d (x ∷ xs) (suc i) h =
+    rw (next-digit, add-comm x, high (joined d xs) d (h 0)) (joined-digit d xs i (λ k. h (suc k)))
 
 -- ---- a number's digits
 
@@ -59,14 +65,16 @@ digits-suc : (d n x : ℕ) → tabulate (suc n) (digit d x) ≡ x % 2 ^ d ∷ ta
 unfolding tabulate
 digits-suc d n x =
     ap₂ (λ (y : ℕ) (l : List ℕ). y ∷ l) (ap (λ (y : ℕ). y % 2 ^ d) (first-digit d x))
-    (tabulate-ext n (λ i. digit d x (suc i)) (digit d (x / 2 ^ d)) (λ i l. ap (λ (y : ℕ). y % 2 ^ d) (next-digit d x i)))
+    (tabulate-ext n (λ i. digit d x (suc i)) (digit d (x / 2 ^ d))
+    (λ i l. ap (λ (y : ℕ). y % 2 ^ d) (next-digit d x i)))
 
 -- n digits joined are the n low digits again
 pub joined-digits : (d n x : ℕ) → joined d (tabulate n (digit d x)) ≡ x % 2 ^ (n * d)
 unfolding joined tabulate
 joined-digits d zero x = rw zero-mul (sym (mod-one x))
 joined-digits d (suc n) x =
-    ap (joined d) (digits-suc d n x) ∙ rw (joined-digits d n (x / 2 ^ d), add-comm, suc-mul) (sym (mod-pow-add x (n * d) d))
+    ap (joined d) (digits-suc d n x)
+    ∙ rw (joined-digits d n (x / 2 ^ d), add-comm, suc-mul) (sym (mod-pow-add x (n * d) d))
 
 -- digits of 8 bits are the bytes
 pub bytes-digits : (n x : ℕ) → tabulate n (digit 8 x) ≡ bytes n x

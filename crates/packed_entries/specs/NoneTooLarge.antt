@@ -33,7 +33,8 @@ large-of w (x ∷ xs) h = ap₂ _||_ (lt-leb (2 ^ w) x (h zero)) (large-of w xs 
 
 -- nor in a part of the list
 pub large-part : (w m p : ℕ) (xs : List ℕ) → anyLarge w xs ≡ false → anyLarge w (take m (drop p xs)) ≡ false
-large-part w m p xs e = large-of w (take m (drop p xs)) (small-take w m (drop p xs) (small-drop w p xs (small-of w xs e)))
+large-part w m p xs e =
+    large-of w (take m (drop p xs)) (small-take w m (drop p xs) (small-drop w p xs (small-of w xs e)))
 
 -- ---- the bits of all entries together
 
@@ -49,7 +50,9 @@ large-or w a b = go (leb (2 ^ w) a) (leb (2 ^ w) b) refl refl
 large-append : (w : ℕ) (a b : List ℕ) → anyLarge w (a ++ b) ≡ (anyLarge w a || anyLarge w b)
 unfolding anyLarge
 large-append w [] b = refl
-large-append w (x ∷ a) b = ap (λ (t : Bool). leb (2 ^ w) x || t) (large-append w a b) ∙ sym (or-assoc (leb (2 ^ w) x) (anyLarge w a) (anyLarge w b))
+large-append w (x ∷ a) b =
+    ap (λ (t : Bool). leb (2 ^ w) x || t) (large-append w a b)
+    ∙ sym (or-assoc (leb (2 ^ w) x) (anyLarge w a) (anyLarge w b))
 
 large-one : (w x : ℕ) → anyLarge w (x ∷ []) ≡ leb (2 ^ w) x
 unfolding anyLarge
@@ -63,7 +66,8 @@ large-none w = lt-leb (2 ^ w) 0 (pow-pos w)
 pub large-next : (w a : ℕ) (xs : List ℕ) (i : ℕ) → i < length xs → leb (2 ^ w) a ≡ anyLarge w (take i xs)
     → leb (2 ^ w) (bitOr a (getD xs i 0)) ≡ anyLarge w (take (i + 1) xs)
 large-next w a xs i h e =
-    rw (add-one, take-suc xs i 0 h, large-append, large-one) (large-or w a (getD xs i 0) ∙ ap (λ (t : Bool). t || leb (2 ^ w) (getD xs i 0)) e)
+    rw (add-one, take-suc xs i 0 h, large-append, large-one)
+    (large-or w a (getD xs i 0) ∙ ap (λ (t : Bool). t || leb (2 ^ w) (getD xs i 0)) e)
 
 -- where the listed fault is not there, no entry is too large
 pub fits-of : (w : ℕ) (xs : List ℕ) → largeFault w xs ≡ 0 → anyLarge w xs ≡ false

@@ -1,4 +1,5 @@
-// A copy of the groups' loop for each width, there and back: with a literal width its shifts and masks are constants.
+// A copy of the groups' loop for each width, there and back: with a literal width its shifts and masks are
+// constants.
 ghost use mathlib.Core.Path.{_≡_};
 ghost use mathlib.Core.Bool.{false};
 ghost use Prim.Native.Nat.{_+_, _*_, _≤_, _<_};
@@ -13,7 +14,8 @@ use crate::groups::unpack_groups;
 // The first m groups of eight entries, into the first 8 × m places.
 pub fn unpack_of_width(page: &[u8], m: usize, w: usize, entries: &mut [u32])
     requires { ⌜ (w ≤ 32) × (m * w + 8 ≤ length (now page)) × (8 * m ≤ length (now entries)) ⌝ }
-    ensures { λ _. ⌜ now (entries .exit) ≡ put (now (entries .entry)) 0 (tabulate (8 * m) (entry lowFirst (now (page .entry)) w)) ⌝ }
+    ensures { λ _. ⌜ now (entries .exit)
+        ≡ put (now (entries .entry)) 0 (tabulate (8 * m) (entry lowFirst (now (page .entry)) w)) ⌝ }
 {
     match w {
         0 => unpack_groups(page, m, 0, entries),
@@ -55,8 +57,10 @@ pub fn unpack_of_width(page: &[u8], m: usize, w: usize, entries: &mut [u32])
 
 // The page that the first m groups make, into the page's first bytes.
 pub fn pack_of_width(entries: &[u32], m: usize, w: usize, page: &mut [u8])
-    requires { ⌜ (0 < w) × (w ≤ 32) × (8 * m ≤ length (now entries)) × (anyLarge w (now entries) ≡ false) × (m * w ≤ length (now page)) ⌝ }
-    ensures { λ _. ⌜ now (page .exit) ≡ put (now (page .entry)) 0 (packed lowFirst w (take (8 * m) (now (entries .entry)))) ⌝ }
+    requires { ⌜ (0 < w) × (w ≤ 32) × (8 * m ≤ length (now entries)) × (anyLarge w (now entries) ≡ false)
+        × (m * w ≤ length (now page)) ⌝ }
+    ensures { λ _. ⌜ now (page .exit)
+        ≡ put (now (page .entry)) 0 (packed lowFirst w (take (8 * m) (now (entries .entry)))) ⌝ }
 {
     match w {
         1 => pack_groups(entries, m, 1, page),

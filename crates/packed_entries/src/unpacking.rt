@@ -7,7 +7,8 @@ ghost use Rattle.rules.specs.Bits.Order.{lowFirst};
 use crate::by_width::unpack_of_width;
 use words::entries::entry_any;
 
-// How many groups, of q, have their windows within a page of `len` bytes. Where a stream goes on behind them all have, and nothing is divided.
+// How many groups, of q, have their windows within a page of `len` bytes. Where a stream goes on behind
+// them all have, and nothing is divided.
 fn groups_within(len: usize, w: usize, q: usize) -> usize
     requires { ⌜ (w ≤ 32) × (q ≤ 2048) × (8 ≤ len) ⌝ }
     ensures { λ r. ⌜ (r ≤ q) × (r * w + 8 ≤ len) ⌝ }
@@ -22,7 +23,8 @@ fn groups_within(len: usize, w: usize, q: usize) -> usize
 fn unpack_front(page: &[u8], w: u32, n: usize, entries: &mut [u32]) -> usize
     requires { ⌜ (w ≤ 32) × (n ≤ 16384) × (n ≤ length (now entries)) ⌝ }
     ensures within { λ r. ⌜ r ≤ n ⌝ }
-    ensures written { λ r. ⌜ now (entries .exit) ≡ put (now (entries .entry)) 0 (tabulate r (entry lowFirst (now (page .entry)) w)) ⌝ }
+    ensures written { λ r. ⌜ now (entries .exit)
+        ≡ put (now (entries .entry)) 0 (tabulate r (entry lowFirst (now (page .entry)) w)) ⌝ }
 {
     if page.len() < 8 {
         return 0;
@@ -35,7 +37,8 @@ fn unpack_front(page: &[u8], w: u32, n: usize, entries: &mut [u32]) -> usize
 // The n entries of width w that a page holds end to end, into the first n places.
 pub fn unpack(page: &[u8], w: u32, n: usize, entries: &mut [u32])
     requires { ⌜ (w ≤ 32) × (n ≤ 16384) × (n ≤ length (now entries)) ⌝ }
-    ensures { λ _. ⌜ now (entries .exit) ≡ put (now (entries .entry)) 0 (tabulate n (entry lowFirst (now (page .entry)) w)) ⌝ }
+    ensures { λ _. ⌜ now (entries .exit)
+        ≡ put (now (entries .entry)) 0 (tabulate n (entry lowFirst (now (page .entry)) w)) ⌝ }
 {
     let mut i = unpack_front(page, w, n, entries);
     while i < n {

@@ -23,13 +23,15 @@ use Rattle.packed_kernels.specs.Selected.{selected, ranging}
 
 -- eight tests, each with its weight, are a word of them
 pub eight-flags : (test : ℕ → Bool)
-    → flag (test 0) + flag (test 1) * 2 + flag (test 2) * 4 + flag (test 3) * 8 + flag (test 4) * 16 + flag (test 5) * 32 + flag (test 6) * 64 + flag (test 7) * 128 ≡ word 8 test
+    → flag (test 0) + flag (test 1) * 2 + flag (test 2) * 4 + flag (test 3) * 8 + flag (test 4) * 16
+    + flag (test 5) * 32 + flag (test 6) * 64 + flag (test 7) * 128 ≡ word 8 test
 unfolding word
 eight-flags test = omega arith
 
 -- and tests at the bits 0, w, 2 × w, .. one of tests at j × w
 pub group-flags : (test : ℕ → Bool) (w : ℕ)
-    → flag (test 0) + flag (test w) * 2 + flag (test (2 * w)) * 4 + flag (test (3 * w)) * 8 + flag (test (4 * w)) * 16 + flag (test (5 * w)) * 32 + flag (test (6 * w)) * 64 + flag (test (7 * w)) * 128
+    → flag (test 0) + flag (test w) * 2 + flag (test (2 * w)) * 4 + flag (test (3 * w)) * 8
+    + flag (test (4 * w)) * 16 + flag (test (5 * w)) * 32 + flag (test (6 * w)) * 64 + flag (test (7 * w)) * 128
     ≡ word 8 (λ j. test (j * w))
 group-flags test w =
     let e : flag (test 0) ≡ flag (test (0 * w)) = ap (λ (k : ℕ). flag (test k)) (sym (zero-mul w)) in
@@ -37,7 +39,8 @@ group-flags test w =
     rw (e, f) (eight-flags (λ j. test (j * w)))
 
 -- a byte of tests, or its complement
-turned-byte : (f : ℕ → Bool) (outside : Bool) → bitXor (word 8 f) (boolByte outside * 255) ≡ word 8 (λ j. turned outside (f j))
+turned-byte : (f : ℕ → Bool) (outside : Bool)
+    → bitXor (word 8 f) (boolByte outside * 255) ≡ word 8 (λ j. turned outside (f j))
 turned-byte f false = xor-zero-r (word 8 f)
 turned-byte f true =
     let all : bitAnd (word 8 f) 255 ≡ word 8 f = and-mask (word 8 f) 8 ∙ mod-eq-of-lt (word-lt 8 f) in
@@ -56,7 +59,8 @@ none-selected l page w test = put-none l 0
 -- the byte of group g, of the eight entries from byte g × w on
 next-selected : (l page : List ℕ) (g w low span flip x : ℕ) → g < length l → flip < 256 → flip % 255 ≡ 0
     → x ≡ word 8 (λ j. inside low (low + span) (field lowFirst page (8 * (g * w) + j * w) w))
-    → set (put l 0 (selected page (8 * g) w (ranging low span flip))) g (bitXor x flip) ≡ put l 0 (selected page (8 * (g + 1)) w (ranging low span flip))
+    → set (put l 0 (selected page (8 * g) w (ranging low span flip))) g (bitXor x flip)
+    ≡ put l 0 (selected page (8 * (g + 1)) w (ranging low span flip))
 unfolding selected ranged
 next-selected l page g w low span flip x h small whole e =
     let outside : Bool = ltb 0 flip in
@@ -78,14 +82,17 @@ module _ (page before : List ℕ) (m w low span flip : ℕ) where
   -- g of m groups are passed: the next one begins at byte `at`, and their bytes are in place
   abbrev pub Passed : List ℕ → ℕ → ℕ → Type 0
   Passed bitmap g at =
-      (g ≤ m) × (length bitmap ≡ length before) × (at ≡ g * w) × (bitmap ≡ put before 0 (selected page (8 * g) w (ranging low span flip)))
+      (g ≤ m) × (length bitmap ≡ length before) × (at ≡ g * w)
+      × (bitmap ≡ put before 0 (selected page (8 * g) w (ranging low span flip)))
 
   pub none-passed : Passed before 0 0
   none-passed = (omega arith, refl, sym (zero-mul w), none-selected before page w (ranging low span flip))
 
   -- the next one's byte x is stored
-  pub next-passed : (bitmap : List ℕ) (g at x : ℕ) → Passed bitmap g at → g < m → m ≤ length before → flip < 256 → flip % 255 ≡ 0
-      → x ≡ word 8 (λ j. inside low (low + span) (field lowFirst page (8 * at + j * w) w)) → Passed (set bitmap g (bitXor x flip)) (g + 1) (at + w)
+  pub next-passed : (bitmap : List ℕ) (g at x : ℕ) → Passed bitmap g at → g < m → m ≤ length before → flip < 256
+      → flip % 255 ≡ 0
+      → x ≡ word 8 (λ j. inside low (low + span) (field lowFirst page (8 * at + j * w) w))
+      → Passed (set bitmap g (bitXor x flip)) (g + 1) (at + w)
   next-passed bitmap g at x p h room small whole e =
       let here : x ≡ word 8 (λ j. inside low (low + span) (field lowFirst page (8 * (g * w) + j * w) w)) =
       e ∙ ap (λ (o : ℕ). word 8 (λ j. inside low (low + span) (field lowFirst page (8 * o + j * w) w))) (p .2) in (
@@ -95,7 +102,8 @@ module _ (page before : List ℕ) (m w low span flip : ℕ) where
         rw (p .3) (next-selected before page g w low span flip x (omega arith) small whole here),
       )
 
-  pub all-passed : (bitmap : List ℕ) (g at : ℕ) → Passed bitmap g at → m ≤ g → bitmap ≡ put before 0 (selected page (8 * m) w (ranging low span flip))
+  pub all-passed : (bitmap : List ℕ) (g at : ℕ) → Passed bitmap g at → m ≤ g
+      → bitmap ≡ put before 0 (selected page (8 * m) w (ranging low span flip))
   all-passed bitmap g at p h =
       let all : g ≡ m = omega (arith, p) in
       rw (← all) (p .3)

@@ -1,7 +1,9 @@
--- Numbers side by side in one word, each in a slot of d bits, and the laws of such words over the number of slots and their size.
+-- Numbers side by side in one word, each in a slot of d bits, and the laws of such words over the number of slots
+-- and their size.
 use mathlib.Core.Path.{_≡_, refl, sym, ap, ap₂, _∙_}
 use Prim.Native.Nat.{ℕ, zero, suc, _+_, _-_, _*_, _/_, _%_, _^_, _≤_, _<_}
-use native.Mathlib.Nat.{not-suc-le-zero, mul-assoc, mul-comm, add-mul, mul-add, zero-mul, add-comm, pow-suc, suc-mul, one-mul, mod-lt, lt-of-lt-of-le, mod-eq-of-lt, div-one}
+use native.Mathlib.Nat.{not-suc-le-zero, mul-assoc, mul-comm, add-mul, mul-add, zero-mul, add-comm, pow-suc}
+use native.Mathlib.Nat.{suc-mul, one-mul, mod-lt, lt-of-lt-of-le, mod-eq-of-lt, div-one}
 use native.Mathlib.Omega.{arith}
 use lib.Arith.{digits-lt}
 use lib.Pow.{pow-pos, pow-add, pow-mono, split, high, low, shr-shr, mod-mod-pow}
@@ -22,14 +24,16 @@ mod-low x b d h =
 pub slots-ext : (n d : ℕ) {f g : ℕ → ℕ} → ((i : ℕ) → i < n → f i ≡ g i) → slots n d f ≡ slots n d g
 unfolding slots joined tabulate
 slots-ext zero d h = refl
-slots-ext (suc n) d h = ap₂ (λ (x y : ℕ). x + y * 2 ^ d) (h zero (omega arith)) (slots-ext n d (λ i l. h (suc i) (omega arith)))
+slots-ext (suc n) d h =
+    ap₂ (λ (x y : ℕ). x + y * 2 ^ d) (h zero (omega arith)) (slots-ext n d (λ i l. h (suc i) (omega arith)))
 
 pub slots-lt : (n d : ℕ) (f : ℕ → ℕ) → ((i : ℕ) → i < n → f i < 2 ^ d) → slots n d f < 2 ^ (n * d)
 unfolding slots joined tabulate
 slots-lt zero d f h = rw (zero-mul) (omega arith)
 slots-lt (suc n) d f h =
     rw (suc-mul, pow-add)
-    (rw (add-comm (f zero)) (digits-lt (slots-lt n d (λ i. f (suc i)) (λ i l. h (suc i) (omega arith))) (h zero (omega arith))))
+    (rw (add-comm (f zero))
+    (digits-lt (slots-lt n d (λ i. f (suc i)) (λ i l. h (suc i) (omega arith))) (h zero (omega arith))))
 
 -- sums, slot by slot
 pub slots-add : (n d : ℕ) (f g : ℕ → ℕ) → slots n d f + slots n d g ≡ slots n d (λ i. f i + g i)
@@ -42,7 +46,8 @@ slots-add (suc n) d f g =
     omega (arith, ap (λ (x : ℕ). x * 2 ^ d) (slots-add n d (λ i. f (suc i)) (λ i. g (suc i))))
 
 -- differences, where no slot borrows
-pub slots-sub : (n d : ℕ) (f g : ℕ → ℕ) → ((i : ℕ) → i < n → g i ≤ f i) → slots n d g + slots n d (λ i. f i - g i) ≡ slots n d f
+pub slots-sub : (n d : ℕ) (f g : ℕ → ℕ) → ((i : ℕ) → i < n → g i ≤ f i)
+    → slots n d g + slots n d (λ i. f i - g i) ≡ slots n d f
 slots-sub n d f g h = slots-add n d g (λ i. f i - g i) ∙ slots-ext n d (λ i l. omega (arith, h i l))
 
 -- one factor for all slots
@@ -52,7 +57,8 @@ slots-mul zero d f c = zero-mul c
 slots-mul (suc n) d f c =
     let u : ℕ = slots n d (λ i. f (suc i)) in
     let e : u * 2 ^ d * c ≡ u * c * 2 ^ d = rw (mul-assoc, mul-comm (2 ^ d), ← mul-assoc) in
-    add-mul (f zero) (u * 2 ^ d) c ∙ ap (λ (x : ℕ). f zero * c + x) (e ∙ ap (λ (x : ℕ). x * 2 ^ d) (slots-mul n d (λ i. f (suc i)) c))
+    add-mul (f zero) (u * 2 ^ d) c
+    ∙ ap (λ (x : ℕ). f zero * c + x) (e ∙ ap (λ (x : ℕ). x * 2 ^ d) (slots-mul n d (λ i. f (suc i)) c))
 
 -- `and`, slot by slot
 pub slots-and : (n d : ℕ) (f g : ℕ → ℕ) → ((i : ℕ) → i < n → f i < 2 ^ d) → ((i : ℕ) → i < n → g i < 2 ^ d)
@@ -66,10 +72,12 @@ slots-and (suc n) d f g hf hg =
     ∙ and-block d u v (f zero) (g zero) (hf zero (omega arith)) (hg zero (omega arith))
     ∙ add-comm (bitAnd u v * 2 ^ d) (bitAnd (f zero) (g zero))
     ∙ ap (λ (x : ℕ). bitAnd (f zero) (g zero) + x * 2 ^ d)
-    (slots-and n d (λ i. f (suc i)) (λ i. g (suc i)) (λ i l. hf (suc i) (omega arith)) (λ i l. hg (suc i) (omega arith)))
+    (slots-and n d (λ i. f (suc i)) (λ i. g (suc i)) (λ i l. hf (suc i) (omega arith))
+    (λ i l. hg (suc i) (omega arith)))
 
 -- the low b bits of each slot of any word
-pub slots-mask : (n d b x : ℕ) → b ≤ d → bitAnd x (slots n d (λ i. 2 ^ b - 1)) ≡ slots n d (λ i. x / 2 ^ (i * d) % 2 ^ b)
+pub slots-mask : (n d b x : ℕ) → b ≤ d
+    → bitAnd x (slots n d (λ i. 2 ^ b - 1)) ≡ slots n d (λ i. x / 2 ^ (i * d) % 2 ^ b)
 unfolding slots joined tabulate
 slots-mask zero d b x h = and-zero-r x
 slots-mask (suc n) d b x h =
@@ -86,7 +94,8 @@ slots-mask (suc n) d b x h =
     (slots-mask n d b (x / 2 ^ d) h ∙ slots-ext n d (λ i l. rest i))
 
 -- one slot
-pub slot : (n d : ℕ) (f : ℕ → ℕ) (i : ℕ) → i < n → ((i : ℕ) → i < n → f i < 2 ^ d) → slots n d f / 2 ^ (i * d) % 2 ^ d ≡ f i
+pub slot : (n d : ℕ) (f : ℕ → ℕ) (i : ℕ) → i < n → ((i : ℕ) → i < n → f i < 2 ^ d)
+    → slots n d f / 2 ^ (i * d) % 2 ^ d ≡ f i
 unfolding slots joined tabulate
 slot zero d f i l h = absurd (not-suc-le-zero l)
 slot (suc n) d f zero l h =
@@ -101,7 +110,8 @@ slot (suc n) d f (suc i) l h =
     ap (λ (k : ℕ). k % 2 ^ d) step ∙ slot n d (λ i. f (suc i)) i (omega arith) (λ i l. h (suc i) (omega arith))
 
 -- a slot that holds few bits
-pub slot-low : (n d b : ℕ) (f : ℕ → ℕ) (i : ℕ) → b ≤ d → i < n → ((i : ℕ) → i < n → f i < 2 ^ b) → slots n d f / 2 ^ (i * d) % 2 ^ b ≡ f i
+pub slot-low : (n d b : ℕ) (f : ℕ → ℕ) (i : ℕ) → b ≤ d → i < n → ((i : ℕ) → i < n → f i < 2 ^ b)
+    → slots n d f / 2 ^ (i * d) % 2 ^ b ≡ f i
 slot-low n d b f i h l small =
     let more : (k : ℕ) → k < n → f k < 2 ^ d = λ k m. lt-of-lt-of-le (small k m) (pow-mono {i = b} {j = d} h) in
     let x : ℕ = slots n d f / 2 ^ (i * d) in
@@ -140,4 +150,5 @@ unfolding slots joined tabulate
 ones-fit zero h = omega arith
 ones-fit (suc d) h =
     let k : ℕ = suc d in
-    lt-of-lt-of-le (slots-lt 4 k (λ i. 1) (λ i l. omega (arith, pow-suc 2 d, pow-pos d))) (pow-mono {i = 4 * k} {j = 64} (omega arith))
+    lt-of-lt-of-le (slots-lt 4 k (λ i. 1) (λ i l. omega (arith, pow-suc 2 d, pow-pos d)))
+    (pow-mono {i = 4 * k} {j = 64} (omega arith))

@@ -36,22 +36,27 @@ window-tests page m at o w lo hi x all fits e f =
 
 -- four entries, and the next four
 pub two-fours : (page : List ℕ) (o w lo hi : ℕ)
-    → word 4 (λ j. inside lo hi (field lowFirst page (o + j * w) w)) + word 4 (λ j. inside lo hi (field lowFirst page (o + 4 * w + j * w) w)) * 16
+    → word 4 (λ j. inside lo hi (field lowFirst page (o + j * w) w))
+    + word 4 (λ j. inside lo hi (field lowFirst page (o + 4 * w + j * w) w)) * 16
     ≡ word 8 (λ j. inside lo hi (field lowFirst page (o + j * w) w))
 two-fours page o w lo hi =
     let t : ℕ → Bool = λ j. inside lo hi (field lowFirst page (o + j * w) w) in
     let place : (j : ℕ) → o + 4 * w + j * w ≡ o + (4 + j) * w = λ j. omega (arith, add-mul 4 j w) in
-    ap (λ (x : ℕ). word 4 t + x * 16) (word-ext 4 (λ j l. ap (λ (k : ℕ). inside lo hi (field lowFirst page k w)) (place j)))
+    ap (λ (x : ℕ). word 4 t + x * 16)
+    (word-ext 4 (λ j l. ap (λ (k : ℕ). inside lo hi (field lowFirst page k w)) (place j)))
     ∙ sym (word-add 4 4 t)
 
 -- two entries, from the k-th on
 pub two-from : (d : ℕ) (page : List ℕ) (o w lo hi k b : ℕ) → b ≡ o + k * w
-    → slots 2 d (λ i. flag (inside lo hi (field lowFirst page (b + i * w) w))) ≡ slots 2 d (λ i. flag (inside lo hi (field lowFirst page (o + (k + i) * w) w)))
+    → slots 2 d (λ i. flag (inside lo hi (field lowFirst page (b + i * w) w)))
+    ≡ slots 2 d (λ i. flag (inside lo hi (field lowFirst page (o + (k + i) * w) w)))
 two-from d page o w lo hi k b e =
-    slots-ext 2 d (λ i l. ap (λ (j : ℕ). flag (inside lo hi (field lowFirst page j w))) (omega (arith, add-mul k i w)))
+    slots-ext 2 d
+    (λ i l. ap (λ (j : ℕ). flag (inside lo hi (field lowFirst page j w))) (omega (arith, add-mul k i w)))
 
 -- four bytes are an entry of 32 bits
-pub whole-entry : (page : List ℕ) (at k x : ℕ) → Small 8 page → x < 2 ^ 32 → x ≡ number (take 4 (drop (at + 4 * k) page)) → x ≡ field lowFirst page (8 * at + k * 32) 32
+pub whole-entry : (page : List ℕ) (at k x : ℕ) → Small 8 page → x < 2 ^ 32
+    → x ≡ number (take 4 (drop (at + 4 * k) page)) → x ≡ field lowFirst page (8 * at + k * 32) 32
 whole-entry page at k x all small e =
     sym (mod-eq-of-lt small)
     ∙ ap (λ (y : ℕ). y % 2 ^ 32) (e ∙ sym (div-one (number (take 4 (drop (at + 4 * k) page)))))

@@ -4,7 +4,7 @@ ghost use Prim.Native.Nat.{_+_, _*_, _%_, _≤_, _<_};
 ghost use lib.ListN.{length};
 ghost use Rattle.rules.specs.Bits.{word, put, field};
 ghost use Rattle.rules.specs.Bits.Order.{lowFirst};
-ghost use Rattle.compare.specs.Range.{inside};
+ghost use Rattle.compare.specs.Range.{inside, Flips};
 ghost use Rattle.packed_kernels.specs.SlotTests.{tested};
 ghost use Rattle.packed_kernels.specs.Selected.{selected, ranging};
 use crate::slots::ones_four;
@@ -27,7 +27,9 @@ fn eight_in(x: u64, w: usize, low: u64, high: u64) -> u8
 // The tests of the eight entries from byte `at` on.
 fn eight(page: &[u8], at: usize, w: usize, low: u32, span: u32) -> u8
     requires { ⌜ (0 < w) × (w ≤ 8) × (at + 8 ≤ length (now page)) ⌝ }
-    ensures { λ r. ⌜ r ≡ word 8 (λ j. inside low (low + span) (field lowFirst (now (page .entry)) (8 * at + j * w) w)) ⌝ }
+    ensures { λ r. ⌜ r
+        ≡ word 8
+        (λ j. inside low (low + span) (field lowFirst (now (page .entry)) (8 * at + j * w) w)) ⌝ }
 {
     eight_in(load8(page, at), w, low as u64, low as u64 + span as u64)
 }
@@ -42,8 +44,10 @@ pub fn select_eights(
     span: u32,
     flip: u8,
 )
-    requires { ⌜ (0 < w) × (w ≤ 8) × (m * w + 8 ≤ length (now page)) × (m ≤ length (now bitmap)) × (flip % 255 ≡ 0) ⌝ }
-    ensures { λ _. ⌜ now (bitmap .exit) ≡ put (now (bitmap .entry)) 0 (selected (now (page .entry)) (8 * m) w (ranging low span flip)) ⌝ }
+    requires { ⌜ (0 < w) × (w ≤ 8) × (m * w + 8 ≤ length (now page)) × (m ≤ length (now bitmap))
+        × Flips flip ⌝ }
+    ensures { λ _. ⌜ now (bitmap .exit)
+        ≡ put (now (bitmap .entry)) 0 (selected (now (page .entry)) (8 * m) w (ranging low span flip)) ⌝ }
 {
     let mut g: usize = 0;
     let mut at: usize = 0;

@@ -4,14 +4,15 @@ ghost use Prim.Native.Nat.{_+_, _*_, _%_, _≤_, _<_};
 ghost use lib.ListN.{length};
 ghost use Rattle.rules.specs.Bits.{word, put, field};
 ghost use Rattle.rules.specs.Bits.Order.{lowFirst};
-ghost use Rattle.compare.specs.Range.{inside};
+ghost use Rattle.compare.specs.Range.{inside, Flips};
 ghost use Rattle.packed_kernels.specs.SlotTests.{tested};
 ghost use Rattle.packed_kernels.specs.Selected.{selected, ranging};
 use crate::slots::ones_two;
 use crate::slots::pair_tests;
 use words::loads::load8;
 
-// The tests of the four entries in a word. The sum has the upper pair beside the lower one, and again in its slot.
+// The tests of the four entries in a word. The sum has the upper pair beside the lower one, and again in
+// its slot.
 fn four_in(x: u64, w: usize, low: u64, high: u64) -> u64
     requires { ⌜ (1 < w) × (w ≤ 16) ⌝ }
     ensures told { λ r. ⌜ r ≡ word 4 (tested low high w x) ⌝ }
@@ -22,10 +23,13 @@ fn four_in(x: u64, w: usize, low: u64, high: u64) -> u64
     (y + (y >> (d - 2))) % 16
 }
 
-// The tests of the eight entries from byte `at` on: those of the first window, and of the one that begins with the fifth entry's byte.
+// The tests of the eight entries from byte `at` on: those of the first window, and of the one that begins
+// with the fifth entry's byte.
 fn eight(page: &[u8], at: usize, w: usize, low: u32, span: u32) -> u8
     requires { ⌜ (1 < w) × (w ≤ 16) × (at + w + 8 ≤ length (now page)) ⌝ }
-    ensures { λ r. ⌜ r ≡ word 8 (λ j. inside low (low + span) (field lowFirst (now (page .entry)) (8 * at + j * w) w)) ⌝ }
+    ensures { λ r. ⌜ r
+        ≡ word 8
+        (λ j. inside low (low + span) (field lowFirst (now (page .entry)) (8 * at + j * w) w)) ⌝ }
 {
     let high = low as u64 + span as u64;
     let x = load8(page, at);
@@ -43,8 +47,10 @@ pub fn select_fours(
     span: u32,
     flip: u8,
 )
-    requires { ⌜ (1 < w) × (w ≤ 16) × (m * w + 8 ≤ length (now page)) × (m ≤ length (now bitmap)) × (flip % 255 ≡ 0) ⌝ }
-    ensures { λ _. ⌜ now (bitmap .exit) ≡ put (now (bitmap .entry)) 0 (selected (now (page .entry)) (8 * m) w (ranging low span flip)) ⌝ }
+    requires { ⌜ (1 < w) × (w ≤ 16) × (m * w + 8 ≤ length (now page)) × (m ≤ length (now bitmap))
+        × Flips flip ⌝ }
+    ensures { λ _. ⌜ now (bitmap .exit)
+        ≡ put (now (bitmap .entry)) 0 (selected (now (page .entry)) (8 * m) w (ranging low span flip)) ⌝ }
 {
     let mut g: usize = 0;
     let mut at: usize = 0;

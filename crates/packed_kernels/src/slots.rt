@@ -1,4 +1,5 @@
-// Several entries of one word tested at once, each in a slot that is wider than it, where a sum has room for its carry.
+// Several entries of one word tested at once, each in a slot that is wider than it, where a sum has room
+// for its carry.
 ghost use mathlib.Core.Path.{_≡_};
 ghost use Prim.Native.Nat.{_*_, _^_, _≤_, _<_, min};
 ghost use Rattle.rules.specs.Bits.{flag};
@@ -35,10 +36,12 @@ pub fn ones_four(d: usize) -> u64
     ones_two(d) * ones_two(2 * d)
 }
 
-// The tests of n entries of w bits, each in a slot of d bits of its own: bit w of a + ge says whether an entry is low or more, and bit w of le - a whether it
-// is high or less. Only the contract speaks of n and d, and so serves all kernels of slots.
+// The tests of n entries of w bits, each in a slot of d bits of its own: bit w of a + ge says whether an
+// entry is low or more, and bit w of le - a whether it is high or less. Only the contract speaks of n and
+// d, and so serves all kernels of slots.
 pub fn slot_tests(a: u64, n: usize, d: usize, ones: u64, w: usize, low: u64, high: u64) -> u64
-    requires { ⌜ (w < 32) × (w < d) × (n * d ≤ 64) × (ones ≡ slots n d (λ i. 1)) × (a ≡ slots n d (held d w a)) ⌝ }
+    requires { ⌜ (w < 32) × (w < d) × (n * d ≤ 64) × (ones ≡ slots n d (λ i. 1))
+        × (a ≡ slots n d (held d w a)) ⌝ }
     ensures { λ r. ⌜ r ≡ slots n d (λ i. flag (inside low high (held d w a i))) ⌝ }
 {
     let p = pow(w);
@@ -47,7 +50,8 @@ pub fn slot_tests(a: u64, n: usize, d: usize, ones: u64, w: usize, low: u64, hig
     (((a + ge) & (le - a)) >> w) & ones
 }
 
-// The tests of 2 * n entries of w bits, end to end in a word: those of entries 2 * i and 2 * i + 1 in slot i.
+// The tests of 2 * n entries of w bits, end to end in a word: those of entries 2 * i and 2 * i + 1 in slot
+// i.
 pub fn pair_tests(x: u64, n: usize, ones: u64, w: usize, low: u64, high: u64) -> u64
     requires { ⌜ (0 < w) × (w ≤ 16) × (n * (2 * w) ≤ 64) × (ones ≡ slots n (2 * w) (λ i. 1)) ⌝ }
     ensures { λ r. ⌜ r ≡ slots n (2 * w) (pair (tested low high w x)) ⌝ }

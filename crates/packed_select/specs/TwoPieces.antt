@@ -42,10 +42,12 @@ padded s z j = go (ltb j (length s)) refl
     go false e =
         let large : length s ≤ j = ltb-false j (length s) e in
         let place : j ≡ length s + (j - length s) = omega arith in
-        ap (λ (i : ℕ). getD (s ++ d) i 0) place ∙ getD-append-add s d (j - length s) 0 ∙ getD-drop (0 + length s) (zeros z) (j - length s) 0 ∙ zeros-at z (0 + length s + (j - length s))
+        ap (λ (i : ℕ). getD (s ++ d) i 0) place ∙ getD-append-add s d (j - length s) 0
+        ∙ getD-drop (0 + length s) (zeros z) (j - length s) 0 ∙ zeros-at z (0 + length s + (j - length s))
         ∙ sym (List·getD-eq-default s 0 large)
 
-pub selected-padded : (s : List ℕ) (z n w : ℕ) (test : ℕ → Bool) → selected (put (zeros z) 0 s) n w test ≡ selected s n w test
+pub selected-padded : (s : List ℕ) (z n w : ℕ) (test : ℕ → Bool)
+    → selected (put (zeros z) 0 s) n w test ≡ selected s n w test
 unfolding selected
 selected-padded s z n w test = bitmap-ext n (λ i l. ap test (field-ext (put (zeros z) 0 s) s (padded s z) (i * w) w))
 
@@ -53,12 +55,16 @@ selected-padded s z n w test = bitmap-ext n (λ i l. ap test (field-ext (put (ze
 
 module _ (l page : List ℕ) (w : ℕ) (test : ℕ → Bool) where
   two-pieces : (m k : ℕ) → m + k ≤ length l
-      → put (put l 0 (selected page (8 * m) w test)) m (selected (drop (m * w) page) (8 * k) w test) ≡ put l 0 (selected page (8 * (m + k)) w test)
+      → put (put l 0 (selected page (8 * m) w test)) m (selected (drop (m * w) page) (8 * k) w test)
+      ≡ put l 0 (selected page (8 * (m + k)) w test)
   unfolding selected
   two-pieces m k h =
       let places : (j : ℕ) → 8 * (m * w) + j * w ≡ (8 * m + j) * w = λ j. rw (add-mul, mul-assoc) in
-      let rest : selected (drop (m * w) page) (8 * k) w test ≡ bitmap (8 * k) (λ j. test (field lowFirst page ((8 * m + j) * w) w)) =
-      bitmap-ext (8 * k) (λ j i. ap test (field-drop page (m * w) (j * w) w ∙ ap (λ (b : ℕ). field lowFirst page b w) (places j))) in
+      let rest : selected (drop (m * w) page) (8 * k) w test
+      ≡ bitmap (8 * k) (λ j. test (field lowFirst page ((8 * m + j) * w) w)) =
+      bitmap-ext (8 * k)
+      (λ j i. ap test (field-drop page (m * w) (j * w) w ∙ ap (λ (b : ℕ). field lowFirst page b w) (places j)))
+      in
       ap (put (put l 0 (selected page (8 * m) w test)) m) rest
       ∙ put-bitmap l m (8 * k) (λ i. test (field lowFirst page (i * w) w)) (omega arith)
       ∙ ap (λ (n : ℕ). put l 0 (selected page n w test)) (omega arith)
@@ -73,7 +79,8 @@ module _ (l page : List ℕ) (w : ℕ) (test : ℕ → Bool) where
   all-selected front rest back n m q eq h hm ef er eb =
       let v : List ℕ = selected (drop (m * w) page) (8 * (q - m)) w test in
       let whole : m + (q - m) ≡ q = omega arith in
-      let written : take m front ++ (rest ++ drop (length front - m) (drop m front)) ≡ put l 0 (selected page (8 * q) w test) =
+      let written : take m front ++ (rest ++ drop (length front - m) (drop m front))
+      ≡ put l 0 (selected page (8 * q) w test) =
       part-put front rest v m er
       ∙ ap (λ (y : List ℕ). put y m v) ef
       ∙ two-pieces m (q - m) (omega arith)
@@ -82,7 +89,8 @@ module _ (l page : List ℕ) (w : ℕ) (test : ℕ → Bool) where
 
   -- no group's windows end within the page
   pub none-front : (q : ℕ) → length page ≤ 8
-      → ((0 * w ≤ length page) × (length page ≤ 0 * w + w + 8) × (0 ≤ q)) × (l ≡ put l 0 (selected page (8 * 0) w test))
+      → ((0 * w ≤ length page) × (length page ≤ 0 * w + w + 8) × (0 ≤ q))
+      × (l ≡ put l 0 (selected page (8 * 0) w test))
   none-front q h = (omega (arith, zero-mul w), none-selected l page w test)
 
 -- ---- sizes: n entries are q groups, the last of them not whole, and at most 8 bytes follow them

@@ -1,10 +1,11 @@
-// A whole page: its groups, those at its end with zeros behind them, and the last byte's unused bits.
+// Packed entries of a whole page compared where they lie: its groups, those at its end with zeros behind
+// them, and the last byte's unused bits.
 ghost use mathlib.Core.Path.{_≡_};
-ghost use Prim.Native.Nat.{_+_, _*_, _%_, _≤_, _<_};
+ghost use Prim.Native.Nat.{_+_, _*_, _≤_, _<_};
 ghost use lib.ListN.{length, drop};
 ghost use Rattle.rules.specs.Bits.{ceil, put};
 ghost use Rattle.rules.specs.Horizontal.{pageBytes};
-ghost use Rattle.compare.specs.Range.{ranged};
+ghost use Rattle.compare.specs.Range.{ranged, Usable, UsableRange};
 ghost use Rattle.packed_kernels.specs.Selected.{selected, ranging};
 use bitmaps::trim;
 use compare::ranges::Range;
@@ -24,9 +25,12 @@ fn groups_within(len: usize, w: usize, q: usize) -> usize
 
 // The groups, of q, whose windows end within the page: how many they are.
 fn front(page: &[u8], bitmap: &mut [u8], q: usize, w: usize, low: u32, span: u32, flip: u8) -> usize
-    requires { ⌜ (w ≤ 32) × (q ≤ 2048) × (length (now page) ≤ q * w + 8) × (q ≤ length (now bitmap)) × (low + span < 4294967296) × (flip % 255 ≡ 0) ⌝ }
-    ensures within { λ r. ⌜ (r * w ≤ length (now (page .entry))) × (length (now (page .entry)) ≤ r * w + w + 8) × (r ≤ q) ⌝ }
-    ensures written { λ r. ⌜ now (bitmap .exit) ≡ put (now (bitmap .entry)) 0 (selected (now (page .entry)) (8 * r) w (ranging low span flip)) ⌝ }
+    requires { ⌜ (w ≤ 32) × (q ≤ 2048) × (length (now page) ≤ q * w + 8) × (q ≤ length (now bitmap))
+        × Usable low span flip ⌝ }
+    ensures within { λ r. ⌜ (r * w ≤ length (now (page .entry)))
+        × (length (now (page .entry)) ≤ r * w + w + 8) × (r ≤ q) ⌝ }
+    ensures written { λ r. ⌜ now (bitmap .exit)
+        ≡ put (now (bitmap .entry)) 0 (selected (now (page .entry)) (8 * r) w (ranging low span flip)) ⌝ }
 {
     if w == 0 {
         return 0;
@@ -54,8 +58,11 @@ pub fn copy(page: &[u8], a: usize, rest: &mut [u8])
 
 // The k groups from byte a on, of which the last may reach past the page's end.
 fn tail(page: &[u8], a: usize, bitmap: &mut [u8], k: usize, w: usize, low: u32, span: u32, flip: u8)
-    requires { ⌜ (w ≤ 32) × (a ≤ length (now page)) × (length (now page) ≤ a + 80) × (k * w ≤ 72) × (k ≤ length (now bitmap)) × (low + span < 4294967296) × (flip % 255 ≡ 0) ⌝ }
-    ensures { λ _. ⌜ now (bitmap .exit) ≡ put (now (bitmap .entry)) 0 (selected (drop a (now (page .entry))) (8 * k) w (ranging low span flip)) ⌝ }
+    requires { ⌜ (w ≤ 32) × (a ≤ length (now page)) × (length (now page) ≤ a + 80) × (k * w ≤ 72)
+        × (k ≤ length (now bitmap)) × Usable low span flip ⌝ }
+    ensures { λ _. ⌜ now (bitmap .exit)
+        ≡ put (now (bitmap .entry)) 0
+        (selected (drop a (now (page .entry))) (8 * k) w (ranging low span flip)) ⌝ }
 {
     if k == 0 {
         return;
@@ -65,11 +72,14 @@ fn tail(page: &[u8], a: usize, bitmap: &mut [u8], k: usize, w: usize, low: u32, 
     select_groups(&rest, bitmap, k, w, low, span, flip);
 }
 
-// The bitmap of the n entries of width w that the page begins with, of which the range selects some. Up to 8 bytes may follow them: then no group's
-// window reaches past the page's end, and nothing is copied.
+// The bitmap of the n entries of width w that the page begins with, of which the range selects some. Up to
+// 8 bytes may follow them: then no group's window reaches past the page's end, and nothing is copied.
 pub fn select(page: &[u8], w: usize, n: usize, range: Range, bitmap: &mut [u8])
-    requires { ⌜ (w ≤ 32) × (n ≤ 16384) × (pageBytes w n ≤ length (now page)) × (length (now page) ≤ pageBytes w n + 8) × (ceil n 8 ≤ length (now bitmap)) × (range .low + range .span < 4294967296) × (range .flip % 255 ≡ 0) ⌝ }
-    ensures { λ _. ⌜ now (bitmap .exit) ≡ put (now (bitmap .entry)) 0 (selected (now (page .entry)) n w (ranged range)) ⌝ }
+    requires { ⌜ (w ≤ 32) × (n ≤ 16384) × (pageBytes w n ≤ length (now page))
+        × (length (now page) ≤ pageBytes w n + 8) × (ceil n 8 ≤ length (now bitmap))
+        × UsableRange range ⌝ }
+    ensures { λ _. ⌜ now (bitmap .exit)
+        ≡ put (now (bitmap .entry)) 0 (selected (now (page .entry)) n w (ranged range)) ⌝ }
 {
     let q = (n + 7) / 8;
     let m = front(page, bitmap, q, w, range.low, range.span, range.flip);

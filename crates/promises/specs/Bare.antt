@@ -20,9 +20,11 @@ pub record Bare {K A : Type 0} (L : Layout K A) (W : Writer L) : Type 0 where
   pub bits : ℕ
   -- the entries of a page fit, and those of a good page make that page
   pub entries-fit : (k : K) (n : ℕ) (page : List ℕ) → W .Fit k (tabulate n (L .entry page k n))
-  pub entries-packed : (k : K) (n : ℕ) (page : List ℕ) → Small bits page → L .Exact page k n → W .packed k (tabulate n (L .entry page k n)) ≡ page
+  pub entries-packed : (k : K) (n : ℕ) (page : List ℕ) → Small bits page → L .Exact page k n
+      → W .packed k (tabulate n (L .entry page k n)) ≡ page
 
-pub unpacked-packs : {K A : Type 0} (L : Layout K A) (W : Writer L) (bare : Bare L W) (page : List ℕ) (k : K) (n : ℕ) (before : List A) (out : List ℕ)
+pub unpacked-packs : {K A : Type 0} (L : Layout K A) (W : Writer L) (bare : Bare L W) (page : List ℕ) (k : K)
+    (n : ℕ) (before : List A) (out : List ℕ)
     {entries : List A} {r : Answer}
     → Small (bare .bits) page
     → outcome r entries ≡ unpacks L page k n before
@@ -32,11 +34,13 @@ pub unpacked-packs : {K A : Type 0} (L : Layout K A) (W : Writer L) (bare : Bare
 unpacked-packs {A = A} L W bare page k n before out {entries} fits contract ok room =
     let read : List A = tabulate n (L .entry page k n) in
     let size : length read ≡ n = length-tabulate n (L .entry page k n) in
-    let entries-are : take n entries ≡ read = rw size at (write-promise _ read before contract .accepts ok .wrote-is) in
+    let entries-are : take n entries ≡ read =
+    rw size at (write-promise _ read before contract .accepts ok .wrote-is) in
     let good = unpack-accepted L page k n before contract .0 ok in
     let again : W .packed k read ≡ page = bare .entries-packed k n page fits (good .1 .1) in
     let enough : W .places k read ≤ length out = rw (← (W .length-packed k read), again) room in
     rw entries-are
     (written-accepted _ _ page out
-    (pack-good _ _ (L .kept k (length read)) (W .fit k read) (length out) _ .1 (rw size (good .0), (bare .entries-fit k n page, enough)))
+    (pack-good _ _ (L .kept k (length read)) (W .fit k read) (length out) _ .1
+    (rw size (good .0), (bare .entries-fit k n page, enough)))
     again)

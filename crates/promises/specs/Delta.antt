@@ -1,5 +1,5 @@
--- Delta pages are a layout of signed entries of W bits with a writer, and their three contracts are its. What the writer writes is read back,
--- and there is a room that always suffices for it.
+-- Delta pages are a layout of signed entries of W bits with a writer, and their three contracts are its. What the
+-- writer writes is read back, and there is a room that always suffices for it.
 use mathlib.Core.Path.{_≡_, refl}
 use mathlib.Core.List.{List}
 use mathlib.Core.Logic.{Iff·rfl}
@@ -25,7 +25,8 @@ use Rattle.promises.specs.Signed.{signed}
 -- a page is good where a reader finds no fault: a grammar of delta pages, apart from the reader, is a later request
 abbrev pub delta : ℕ → Layout (Unit {0}) ℤ
 delta W =
-    signed (λ page k n. Delta.pageFault (Delta.read W n page)) (λ page k n. Delta.pageFault (Delta.read W n page) ≡ 0) (λ page k n. Iff·rfl)
+    signed (λ page k n. Delta.pageFault (Delta.read W n page))
+    (λ page k n. Delta.pageFault (Delta.read W n page) ≡ 0) (λ page k n. Iff·rfl)
     (λ page k n. Delta.pageEntry W (Delta.read W n page))
 
 -- every list fits: 17 never arises. Entries are read back where they are signed numbers of W bits, as those lent are
@@ -43,38 +44,48 @@ writer W some =
       packed-entries = λ k xs few fit held. entries-back W some xs few held;
     }
 
-pub scan-is : (W : ℕ) (page : List ℕ) (n op : ℕ) (a b : ℤ) (before : List ℕ) → Delta.scan W page n op a b before ≡ scans (delta W) page tt n op a b before
+pub scan-is : (W : ℕ) (page : List ℕ) (n op : ℕ) (a b : ℤ) (before : List ℕ)
+    → Delta.scan W page n op a b before ≡ scans (delta W) page tt n op a b before
 unfolding Delta.scan
 scan-is W page n op a b before = refl
 
-pub unpack-is : (W : ℕ) (page : List ℕ) (n : ℕ) (before : List ℤ) → Delta.unpack W page n before ≡ unpacks (delta W) page tt n before
+pub unpack-is : (W : ℕ) (page : List ℕ) (n : ℕ) (before : List ℤ)
+    → Delta.unpack W page n before ≡ unpacks (delta W) page tt n before
 unfolding Delta.unpack
 unpack-is W page n before = refl
 
-pub pack-is : (W : ℕ) (some : 0 < W) (entries : List ℤ) (before : List ℕ) → DeltaWriter.pack W entries before ≡ packs (delta W) (writer W some) entries tt before
+pub pack-is : (W : ℕ) (some : 0 < W) (entries : List ℤ) (before : List ℕ)
+    → DeltaWriter.pack W entries before ≡ packs (delta W) (writer W some) entries tt before
 unfolding DeltaWriter.pack
 pack-is W some entries before = refl
 
 -- ---- what the writer wrote is read back
 
 module _ (W : ℕ) (some : 0 < W) (entries : List ℤ) (before : List ℕ) {page : List ℕ} {r : Answer}
-    (contract : outcome r page ≡ DeltaWriter.pack W entries before) (ok : r .code ≡ 0) (held : AllWithin W entries) where
-  -- the bytes written unpack to the entries, in any places that have room
-  pub written-reads-back : (places : List ℤ) → length entries ≤ length places
-      → Delta.unpack W (take (r .number) page) (length entries) places ≡ outcome (accepted (length entries)) (put places 0 entries)
-  unfolding Delta.unpack DeltaWriter.pack
-  written-reads-back = packed-unpacks (delta W) (writer W some) entries tt before contract ok held
+    (contract : outcome r page ≡ DeltaWriter.pack W entries before) (ok : r .code ≡ 0) (held : AllWithin W entries)
+  where
+    -- the bytes written unpack to the entries, in any places that have room
+    pub written-reads-back : (places : List ℤ) → length entries ≤ length places
+        → Delta.unpack W (take (r .number) page) (length entries) places
+        ≡ outcome (accepted (length entries)) (put places 0 entries)
+    unfolding Delta.unpack DeltaWriter.pack
+    written-reads-back = packed-unpacks (delta W) (writer W some) entries tt before contract ok held
 
-  -- and a scan of them has the bitmap of the entries
-  pub written-scans : (op : ℕ) (a b : ℤ) (bitmap : List ℕ)
-      → Delta.scan W (take (r .number) page) (length entries) op a b bitmap
-      ≡ scanned (operatorFault op then roomFault (length bitmap) (ceil (length entries) 8)) (length entries) (λ i. holds op a b (getD entries i (pos 0))) bitmap
-  unfolding Delta.scan DeltaWriter.pack
-  written-scans op a b bitmap = packed-scans (delta W) (writer W some) entries tt before contract ok held op a b (pos 0) bitmap
+    -- and a scan of them has the bitmap of the entries
+    pub written-scans : (op : ℕ) (a b : ℤ) (bitmap : List ℕ)
+        → Delta.scan W (take (r .number) page) (length entries) op a b bitmap
+        ≡ scanned (operatorFault op then roomFault (length bitmap) (ceil (length entries) 8)) (length entries)
+        (λ i. holds op a b (getD entries i (pos 0))) bitmap
+    unfolding Delta.scan DeltaWriter.pack
+    written-scans op a b bitmap =
+        packed-scans (delta W) (writer W some) entries tt before contract ok held op a b (pos 0) bitmap
 
 -- CAHERMISK_DELTA_BYTES (include/cahermisk.h) is room for every list of 32-bit entries
-pub room-suffices : (entries : List ℤ) (before : List ℕ) {page : List ℕ} {r : Answer} → outcome r page ≡ DeltaWriter.pack 32 entries before
-    → AllWithin 32 entries → length entries ≤ 16384 → 11 + (length entries + 126) / 128 * 521 ≤ length before → r .code ≡ 0
+pub room-suffices : (entries : List ℤ) (before : List ℕ) {page : List ℕ} {r : Answer}
+    → outcome r page ≡ DeltaWriter.pack 32 entries before
+    → AllWithin 32 entries → length entries ≤ 16384 → 11 + (length entries + 126) / 128 * 521 ≤ length before
+    → r .code ≡ 0
 unfolding DeltaWriter.pack
 room-suffices entries before contract held few room =
-    pack-accepted (delta 32) (writer 32 (omega arith)) entries tt before contract .1 (few, (tt, le-trans (page-enough 32 (omega arith) entries few (held 0)) room))
+    pack-accepted (delta 32) (writer 32 (omega arith)) entries tt before contract .1
+    (few, (tt, le-trans (page-enough 32 (omega arith) entries few (held 0)) room))

@@ -1,5 +1,6 @@
--- Dictionary columns are a layout of signed entries, read with their dictionary, and their contracts are its. A column is accepted exactly if its dictionary
--- ascends, its index page can be cut by the published grammar and its indexes are below the count; what is given is that of the values at the indexes so cut.
+-- Dictionary columns are a layout of signed entries, read with their dictionary, and their contracts are its. A
+-- column is accepted exactly if its dictionary ascends, its index page can be cut by the published grammar and its
+-- indexes are below the count; what is given is that of the values at the indexes so cut.
 use mathlib.Core.Path.{_≡_, refl, subst}
 use mathlib.Core.List.{List}
 use mathlib.Core.Logic.{_↔_}
@@ -21,13 +22,17 @@ use Rattle.promises.specs.Writes.{Fills}
 use Rattle.promises.specs.DictionaryFaults.{Exact, Indexes, indexOf, indexes-cut, column-exact}
 
 abbrev pub dictionary : Layout (List ℕ) ℤ
-dictionary = signed (λ page dict n. Dictionary.columnFault dict n page) Exact column-exact (λ page dict n i. value dict (indexAt n page i))
+dictionary =
+    signed (λ page dict n. Dictionary.columnFault dict n page) Exact column-exact
+    (λ page dict n i. value dict (indexAt n page i))
 
-pub scan-is : (dict page : List ℕ) (n op : ℕ) (a b : ℤ) (before : List ℕ) → Dictionary.scan dict page n op a b before ≡ scans dictionary page dict n op a b before
+pub scan-is : (dict page : List ℕ) (n op : ℕ) (a b : ℤ) (before : List ℕ)
+    → Dictionary.scan dict page n op a b before ≡ scans dictionary page dict n op a b before
 unfolding Dictionary.scan
 scan-is dict page n op a b before = refl
 
-pub unpack-is : (dict page : List ℕ) (n : ℕ) (before : List ℤ) → Dictionary.unpack dict page n before ≡ unpacks dictionary page dict n before
+pub unpack-is : (dict page : List ℕ) (n : ℕ) (before : List ℤ)
+    → Dictionary.unpack dict page n before ≡ unpacks dictionary page dict n before
 unfolding Dictionary.unpack
 unpack-is dict page n before = refl
 
@@ -40,18 +45,22 @@ module _ (dict page : List ℕ) (n op : ℕ) (a b : ℤ) (before : List ℕ) {af
   scan-accepted = Layouts.scan-accepted dictionary page dict n op a b before contract
 
   -- the bitmap is that of the values at the indexes so cut
-  pub scan-cut : r .code ≡ 0 → (p : Indexes page n) → Selects n (λ i. holds op a b (value dict (indexOf p i))) before after (r .number)
+  pub scan-cut : r .code ≡ 0 → (p : Indexes page n)
+      → Selects n (λ i. holds op a b (value dict (indexOf p i))) before after (r .number)
   unfolding Dictionary.scan
   scan-cut ok p =
-      subst (λ (index : ℕ → ℕ). Selects n (λ i. holds op a b (value dict (index i))) before after (r .number)) (indexes-cut p)
+      subst (λ (index : ℕ → ℕ). Selects n (λ i. holds op a b (value dict (index i))) before after (r .number))
+      (indexes-cut p)
       (Layouts.scan dictionary page dict n op a b before contract .accepts ok)
 
-module _ (dict page : List ℕ) (n : ℕ) (before : List ℤ) {after : List ℤ} {r : Answer} (contract : outcome r after ≡ Dictionary.unpack dict page n before) where
+module _ (dict page : List ℕ) (n : ℕ) (before : List ℤ) {after : List ℤ} {r : Answer}
+    (contract : outcome r after ≡ Dictionary.unpack dict page n before) where
   pub unpack-accepted : r .code ≡ 0 ↔ n ≤ 16384 and n ≤ length before and Exact page dict n
   unfolding Dictionary.unpack
   unpack-accepted = Layouts.unpack-accepted dictionary page dict n before contract
 
-  pub unpack-cut : r .code ≡ 0 → (p : Indexes page n) → Fills n (λ i. value dict (indexOf p i)) before after (r .number)
+  pub unpack-cut : r .code ≡ 0 → (p : Indexes page n)
+      → Fills n (λ i. value dict (indexOf p i)) before after (r .number)
   unfolding Dictionary.unpack
   unpack-cut ok p =
       subst (λ (index : ℕ → ℕ). Fills n (λ i. value dict (index i)) before after (r .number)) (indexes-cut p)

@@ -1,4 +1,5 @@
--- When a dictionary column has no fault, in plain conditions: of its dictionary, of its index page by the published grammar, and of its indexes.
+-- When a dictionary column has no fault, in plain conditions: of its dictionary, of its index page by the published
+-- grammar, and of its indexes.
 use mathlib.Core.Path.{_≡_, refl, ap, ap₂, _∙_}
 use mathlib.Core.Bool.{Bool, true, false, not, cond, _||_}
 use mathlib.Core.List.{List, [], _∷_}
@@ -13,7 +14,8 @@ use borrow.Author.Tests.{eqb-true, eq-eqb, not-false, ltb-false, le-ltb, leb-fal
 use Rattle.rules.specs.Runs.{Piece, read, streamFault, streamEntry}
 use Rattle.rules.specs.Runs.Stream.{bad}
 use Rattle.rules.specs.Grammar.{Cut}
-use Rattle.rules.specs.Dictionary.{value, count, unordered, dictionaryFault, indexes, indexAt, indexFault, columnFault}
+use Rattle.rules.specs.Dictionary.{value, count, unordered, dictionaryFault, indexes, indexAt, indexFault}
+use Rattle.rules.specs.Dictionary.{columnFault}
 use Rattle.words.specs.Tests as Tests
 use Rattle.words.specs.SomeBelow.{none-below, below-none}
 use Rattle.signed.specs.Order.{not-ltZ, not-leZ}
@@ -69,7 +71,8 @@ module _ (dict : List ℕ) where
   ordered =
       let test : ℕ → Bool = λ k. leZ (value dict (suc k)) (value dict k) in (
         λ e k h. above (value dict k) (value dict (suc k)) .0 (below-none (count dict - 1) test e k (omega arith)),
-        λ h. none-below (count dict - 1) test (λ k l. above (value dict k) (value dict (suc k)) .1 (h k (omega arith))),
+        λ h. none-below (count dict - 1) test
+            (λ k l. above (value dict k) (value dict (suc k)) .1 (h k (omega arith))),
       )
 
   pub dictionary-exact : dictionaryFault dict ≡ 0 ↔ Ascending dict
@@ -77,8 +80,12 @@ module _ (dict : List ℕ) where
   dictionary-exact =
       Iff·trans (no-fault _ 14 (λ e. omega arith))
       (Iff·trans
-      (neither-holds _ _ (neither-holds _ _ (multiple (length dict)) (ltb-false 65536 (length dict), le-ltb 65536 (length dict))) ordered)
-      (λ e. record { whole = e .0 .0; short = e .0 .1; ascends = e .1 }, λ good. ((good .whole, good .short), good .ascends)))
+      (neither-holds _ _
+      (neither-holds _ _ (multiple (length dict)) (ltb-false 65536 (length dict), le-ltb 65536 (length dict)))
+      ordered) (
+        λ e. record { whole = e .0 .0; short = e .0 .1; ascends = e .1 },
+        λ good. ((good .whole, good .short), good .ascends),
+      ))
 
 -- ---- the index page, and 15
 
@@ -86,14 +93,16 @@ module _ (dict : List ℕ) where
 pub indexes-cut : {page : List ℕ} {n : ℕ} (p : Indexes page n) → indexAt n page ≡ indexOf p
 unfolding indexAt
 indexes-cut {page} {n} p =
-    ap (indexAt n) (p .page-is) ∙ ap (streamEntry (p .width)) (Runs.exact (p .width) n (p .behind) (p .runs) .1 (p .cut))
+    ap (indexAt n) (p .page-is)
+    ∙ ap (streamEntry (p .width)) (Runs.exact (p .width) n (p .behind) (p .runs) .1 (p .cut))
 
 -- 5, 1, and those of the stream
 pub indexes-exact : (page : List ℕ) (n : ℕ) → streamFault (indexes n page) ≡ 0 ↔ Indexes page n
 unfolding indexes
 indexes-exact page n = (go page, back)
   where
-    found : (w : ℕ) (s : List ℕ) (t : Bool) → ltb 32 w ≡ t → streamFault (cond t (bad 1) (read w n s)) ≡ 0 → Indexes (w ∷ s) n
+    found : (w : ℕ) (s : List ℕ) (t : Bool) → ltb 32 w ≡ t → streamFault (cond t (bad 1) (read w n s)) ≡ 0
+        → Indexes (w ∷ s) n
     found w s true e z = absurd (omega arith)
     found w s false e z =
         let c = Runs.accepted w n s .0 z in
@@ -108,7 +117,8 @@ indexes-exact page n = (go page, back)
         ap (λ (l : List ℕ). streamFault (indexes n l)) (p .page-is)
         ∙ rw (le-ltb 32 (p .width) (p .narrow)) (Runs.accepted (p .width) n (p .behind) .1 (p .runs, p .cut))
 
-pub below-exact : (page dict : List ℕ) (n : ℕ) → indexFault dict n page ≡ 0 ↔ ((i : ℕ) → i < n → indexAt n page i < count dict)
+pub below-exact : (page dict : List ℕ) (n : ℕ)
+    → indexFault dict n page ≡ 0 ↔ ((i : ℕ) → i < n → indexAt n page i < count dict)
 unfolding indexFault
 below-exact page dict n =
     let test : ℕ → Bool = λ i. leb (count dict) (indexAt n page i) in

@@ -1,4 +1,5 @@
--- That two results allowed by a contract are equal: for every function, since each contract is an equation of this shape.
+-- That two results allowed by a contract are equal: for every function, since each contract is an equation of this
+-- shape.
 use mathlib.Core.Path.{_≡_}
 use mathlib.Core.List.{List}
 use Rattle.rules.specs.Answer.{Outcome}

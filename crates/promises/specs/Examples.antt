@@ -1,4 +1,5 @@
--- The proved examples of document 01, as one table under one statement. Each call is lent a place or more than it needs, which keeps what it held.
+-- The proved examples of document 01, as one table under one statement. Each call is lent a place or more than it
+-- needs, which keeps what it held.
 use mathlib.Core.Path.{_≡_, refl}
 use mathlib.Core.List.{List, [], _∷_, _++_, map}
 use Prim.Native.Nat.{ℕ}
@@ -8,7 +9,8 @@ use Rattle.rules.specs.Bits.{tabulate, someBelow, put, bit, word, bytes, joined
 use Rattle.rules.specs.Bits.Order.{lowFirst}
 use Rattle.rules.specs.Bitmap.{bitmap, tally}
 use Rattle.rules.specs.Comparison.{between, operators, holds}
-use Rattle.rules.specs.Answer.{_then_, limitFault, operatorFault, roomFault, anyLarge, largeFault, accepted, refusal, answered, Outcome}
+use Rattle.rules.specs.Answer.{_then_, limitFault, operatorFault, roomFault, anyLarge, largeFault, accepted}
+use Rattle.rules.specs.Answer.{refusal, answered, Outcome}
 use Rattle.rules.specs.Answer.Outcome.{outcome}
 use Rattle.rules.specs.Horizontal as Horizontal
 use Rattle.rules.specs.Vertical as Vertical
@@ -112,7 +114,8 @@ unfolding Horizontal.scan Horizontal.unpack Horizontal.pack Horizontal.pageFault
     Vertical.scan Vertical.unpack Vertical.pack Vertical.pageFault Vertical.packed Vertical.lane Vertical.plane
     Runs.scan Runs.unpack Runs.read Runs.repeatedAt Runs.packedAt Runs.cutEntries numberAt
     RunWriter.pack RunWriter.stream RunWriter.runBytes RunWriter.nextRun RunWriter.stretch RunWriter.equalTo shortest
-    Delta.scan Delta.read Delta.headAt Delta.shaped Delta.blockAt Delta.laidAt Delta.needed Delta.bodyBytes Delta.miniDeltas Delta.entryOf reading zigzag zigzagOf modulo signed gap
+    Delta.scan Delta.read Delta.headAt Delta.shaped Delta.blockAt Delta.laidAt Delta.needed Delta.bodyBytes
+    Delta.miniDeltas Delta.entryOf reading zigzag zigzagOf modulo signed gap
     DeltaWriter.pack DeltaWriter.page DeltaWriter.block DeltaWriter.widthOf DeltaWriter.wideFault
     anyLarge largeFault _then_ limitFault operatorFault roomFault answered
     bitmap tally between operators holds tabulate someBelow put bit word bytes joined bitOf bitAt piece

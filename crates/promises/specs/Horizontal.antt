@@ -1,4 +1,5 @@
--- Bare horizontal pages are a bare layout, and their three contracts are its. Entry i takes bits i × w to i × w + w − 1, lowest first.
+-- Bare horizontal pages are a bare layout, and their three contracts are its. Entry i takes bits i × w to i × w + w
+-- − 1, lowest first.
 use mathlib.Core.Path.{_≡_, refl}
 use mathlib.Core.List.{List}
 use Prim.Native.Nat.{ℕ}
@@ -23,7 +24,8 @@ abbrev pub writer : Writer horizontal
 writer =
     unsigned-writer _ _ page-exact (λ page w n. entry lowFirst page w)
     (Horizontal.packed lowFirst) (λ w xs. Horizontal.pageBytes w (length xs)) (length-packed lowFirst)
-    (λ w xs few small. exact (Horizontal.packed lowFirst w xs) w (length xs) .0 (length-packed lowFirst w xs, unused-packed w xs (large-of w xs small)))
+    (λ w xs few small. exact (Horizontal.packed lowFirst w xs) w (length xs) .0
+    (length-packed lowFirst w xs, unused-packed w xs (large-of w xs small)))
     (λ w xs few small. unpack-packed w xs (large-of w xs small))
 
 abbrev pub bare : Bare horizontal writer
@@ -31,17 +33,21 @@ bare =
     record {
       bits = 8;
       entries-fit = λ w n page. small-of w _ (entries-small w n page);
-      entries-packed = λ w n page bytes good. let e = exact page w n .1 good in pack-unpacked w n page bytes (e .0) (e .1);
+      entries-packed =
+          λ w n page bytes good. let e = exact page w n .1 good in pack-unpacked w n page bytes (e .0) (e .1);
     }
 
-pub scan-is : (page : List ℕ) (w n op : ℕ) (a b : ℤ) (before : List ℕ) → Horizontal.scan lowFirst page w n op a b before ≡ scans horizontal page w n op a b before
+pub scan-is : (page : List ℕ) (w n op : ℕ) (a b : ℤ) (before : List ℕ)
+    → Horizontal.scan lowFirst page w n op a b before ≡ scans horizontal page w n op a b before
 unfolding Horizontal.scan
 scan-is page w n op a b before = refl
 
-pub unpack-is : (page : List ℕ) (w n : ℕ) (before : List ℕ) → Horizontal.unpack lowFirst page w n before ≡ unpacks horizontal page w n before
+pub unpack-is : (page : List ℕ) (w n : ℕ) (before : List ℕ)
+    → Horizontal.unpack lowFirst page w n before ≡ unpacks horizontal page w n before
 unfolding Horizontal.unpack
 unpack-is page w n before = refl
 
-pub pack-is : (entries : List ℕ) (w : ℕ) (before : List ℕ) → Horizontal.pack lowFirst entries w before ≡ packs horizontal writer entries w before
+pub pack-is : (entries : List ℕ) (w : ℕ) (before : List ℕ)
+    → Horizontal.pack lowFirst entries w before ≡ packs horizontal writer entries w before
 unfolding Horizontal.pack
 pack-is entries w before = refl

@@ -20,19 +20,27 @@ pub record Exact (page : List ℕ) (w n : ℕ) : Type 0 where
   pub unused-clear : (k : ℕ) → n * w ≤ k → k < 8 * length page → bitAt lowFirst 8 page k ≡ 0
 
 -- bits that spell 0 are all 0, and the other way round
-clear-bits : (l : List ℕ) (from m : ℕ) → field lowFirst l from m ≡ 0 → (k : ℕ) → from ≤ k → k < from + m → bitAt lowFirst 8 l k ≡ 0
+clear-bits : (l : List ℕ) (from m : ℕ) → field lowFirst l from m ≡ 0 → (k : ℕ) → from ≤ k → k < from + m
+    → bitAt lowFirst 8 l k ≡ 0
 unfolding piece
 clear-bits l from zero none k h t = absurd (omega arith)
 clear-bits l from (suc m) none k h t = go (clear-bits l (suc from) m (omega arith) k) (ltb from k) refl
   where
-    go : (suc from ≤ k → k < suc from + m → bitAt lowFirst 8 l k ≡ 0) → (later : Bool) → ltb from k ≡ later → bitAt lowFirst 8 l k ≡ 0
+    go : (suc from ≤ k → k < suc from + m → bitAt lowFirst 8 l k ≡ 0) → (later : Bool) → ltb from k ≡ later
+        → bitAt lowFirst 8 l k ≡ 0
     go ih true e = ih (ltb-true from k e) (omega arith)
     go ih false e = let first : k ≡ from = omega (arith, ltb-false from k e) in rw first (omega arith)
 
-bits-clear : (l : List ℕ) (from m : ℕ) → ((k : ℕ) → from ≤ k → k < from + m → bitAt lowFirst 8 l k ≡ 0) → field lowFirst l from m ≡ 0
+bits-clear : (l : List ℕ) (from m : ℕ) → ((k : ℕ) → from ≤ k → k < from + m → bitAt lowFirst 8 l k ≡ 0)
+    → field lowFirst l from m ≡ 0
 unfolding piece
 bits-clear l from zero h = refl
-bits-clear l from (suc m) h = omega (arith, h from (omega arith) (omega arith), bits-clear l (suc from) m (λ k a b. h k (omega arith) (omega arith)))
+bits-clear l from (suc m) h =
+    omega (
+      arith,
+      h from (omega arith) (omega arith),
+      bits-clear l (suc from) m (λ k a b. h k (omega arith) (omega arith)),
+    )
 
 -- neither too few nor too many
 as-many : (have want spare : ℕ) → want ≤ have and have ≤ want and spare ≤ 0 ↔ have ≡ want and spare ≡ 0
@@ -52,7 +60,10 @@ module _ (page : List ℕ) (w n : ℕ) where
       all-bytes = good .0;
       unused-clear = λ k h t. clear-bits page (n * w) rest (good .1) k h (rw (to-end (good .0)) t);
     },
-    λ good. (good .all-bytes, bits-clear page (n * w) rest (λ k h t. good .unused-clear k h (rw (to-end (good .all-bytes)) at t))),
+    λ good. (
+      good .all-bytes,
+      bits-clear page (n * w) rest (λ k h t. good .unused-clear k h (rw (to-end (good .all-bytes)) at t)),
+    ),
   )
 
   -- 5, 6, 7
@@ -60,5 +71,6 @@ module _ (page : List ℕ) (w n : ℕ) where
   unfolding pageFault
   page-exact =
       Iff·trans
-      (neither _ _ (not-below _ _ 5 (λ e. omega arith)) (neither _ _ (not-below _ _ 6 (λ e. omega arith)) (not-below _ _ 7 (λ e. omega arith))))
+      (neither _ _ (not-below _ _ 5 (λ e. omega arith))
+      (neither _ _ (not-below _ _ 6 (λ e. omega arith)) (not-below _ _ 7 (λ e. omega arith))))
       (Iff·trans (as-many (length page) (pageBytes w n) (unused lowFirst page w n)) exact)

@@ -39,11 +39,13 @@ module _ {K A : Type 0} (L : Layout K A) where
 
   abbrev pub unpacks : List ℕ → K → ℕ → List A → Outcome A
   unpacks page k n before =
-      written (L .limits k n then roomFault (length before) n then L .fault page k n) (tabulate n (L .entry page k n)) before
+      written (L .limits k n then roomFault (length before) n then L .fault page k n)
+      (tabulate n (L .entry page k n)) before
 
   module _ (page : List ℕ) (k : K) (n op : ℕ) (a b : ℤ) (before : List ℕ) {after : List ℕ} {r : Answer}
       (contract : outcome r after ≡ scans page k n op a b before) where
-    -- scan: the limits', 3, 4, then the page's; an entry is selected exactly when the comparison holds of it, as a whole number
+    -- scan: the limits', 3, 4, then the page's; an entry is selected exactly when the comparison holds of it, as a
+    -- whole number
     pub scan : Promise
         (L .limits k n then operatorFault op then roomFault (length before) (ceil n 8) then L .fault page k n)
         before after r

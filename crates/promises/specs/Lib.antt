@@ -1,4 +1,5 @@
--- The chapter in reading order: what every answer promises, what every layout does, the layouts one by one, one run asked for by itself, the examples.
+-- The chapter in reading order: what every answer promises, what every layout does, the layouts one by one, one run
+-- asked for by itself, the examples.
 pub mod Promise
 pub mod Equal
 pub mod Fronts

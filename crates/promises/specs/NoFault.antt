@@ -50,16 +50,20 @@ pub entries-fit : (w : ℕ) (xs : List ℕ) → largeFault w xs ≡ 0 ↔ Small 
 unfolding largeFault
 entries-fit w xs = Iff·trans (no-fault (anyLarge w xs) 8 (λ e. omega arith)) (small-of w xs, large-of w xs)
 
--- when a call finds no fault, over the faults of the arguments' limits, of the page and of the entries, and what their absence says
-module _ {Kept Exact : Type 0} (limits page : ℕ) (kept : limits ≡ 0 ↔ Kept) (exact : page ≡ 0 ↔ Exact) (n places : ℕ) where
+-- when a call finds no fault, over the faults of the arguments' limits, of the page and of the entries, and what
+-- their absence says
+module _ {Kept Exact : Type 0} (limits page : ℕ) (kept : limits ≡ 0 ↔ Kept) (exact : page ≡ 0 ↔ Exact)
+    (n places : ℕ) where
   pub scan-good : (op : ℕ)
       → (limits then operatorFault op then roomFault places (ceil n 8) then page) ≡ 0
       ↔ Kept and op ≤ 7 and ceil n 8 ≤ places and Exact
-  scan-good op = neither _ _ kept (neither _ _ (operator-known op) (neither _ _ (room-enough places (ceil n 8)) exact))
+  scan-good op =
+      neither _ _ kept (neither _ _ (operator-known op) (neither _ _ (room-enough places (ceil n 8)) exact))
 
   pub unpack-good : (limits then roomFault places n then page) ≡ 0 ↔ Kept and n ≤ places and Exact
   unpack-good = neither _ _ kept (neither _ _ (room-enough places n) exact)
 
-pub pack-good : {Kept Fit : Type 0} (limits entries : ℕ) → (limits ≡ 0 ↔ Kept) → (entries ≡ 0 ↔ Fit) → (places need : ℕ)
+pub pack-good : {Kept Fit : Type 0} (limits entries : ℕ) → (limits ≡ 0 ↔ Kept) → (entries ≡ 0 ↔ Fit)
+    → (places need : ℕ)
     → (limits then entries then roomFault places need) ≡ 0 ↔ Kept and Fit and need ≤ places
 pack-good limits entries kept fit places need = neither _ _ kept (neither _ _ fit (room-enough places need))

@@ -1,4 +1,5 @@
--- What is promised of every answer, of any layout and operation: what its code is, what a refusal leaves, and what an acceptance gives.
+-- What is promised of every answer, of any layout and operation: what its code is, what a refusal leaves, and what
+-- an acceptance gives.
 use mathlib.Core.Path.{_≡_, sym, ap, _∙_}
 use mathlib.Core.List.{List}
 use mathlib.Core.Logic.{_↔_}
@@ -9,7 +10,8 @@ use Rattle.rules.specs.Answer.{accepted, refusal, answered}
 use Rattle.rules.specs.Answer.Outcome.{outcome}
 use Rattle.rules.specs.declared.Answer.{Answer}
 
--- a call that was lent `before` gives the answer r and leaves `after`; `fault` is the first fault in the listed order, 0 where there is none
+-- a call that was lent `before` gives the answer r and leaves `after`; `fault` is the first fault in the listed
+-- order, 0 where there is none
 pub record Promise {A : Type 0} (fault : ℕ) (before after : List A) (r : Answer) (Gives : Type 0) : Type 0 where
   -- a code is given exactly where its row and this order say, and nothing else is refused
   pub code-is : r .code ≡ fault

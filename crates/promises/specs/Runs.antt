@@ -1,5 +1,6 @@
--- Run streams are a layout, and their three contracts are its. The third condition: a stream is accepted exactly if its bytes can be cut into runs by the
--- published grammar, none can be cut in two ways, and what is given is that of the entries so cut. What the writer writes is read back, and there is a room that always suffices for it.
+-- Run streams are a layout, and their three contracts are its. The third condition: a stream is accepted exactly if
+-- its bytes can be cut into runs by the published grammar, none can be cut in two ways, and what is given is that
+-- of the entries so cut. What the writer writes is read back, and there is a room that always suffices for it.
 use mathlib.Core.Path.{_≡_, refl, subst}
 use mathlib.Core.List.{List}
 use mathlib.Core.Logic.{_↔_}
@@ -38,7 +39,9 @@ abbrev pub entryOf : ℕ → List Piece → ℕ → ℕ
 entryOf w ps i = getD (cutEntries w ps) i 0
 
 abbrev pub runs : Layout ℕ ℕ
-runs = unsigned (λ page w n. streamFault (read w n page)) (λ page w n. Cuttable w n page) (λ page w n. Exact.accepted w n page) (λ page w n. streamEntry w (read w n page))
+runs =
+    unsigned (λ page w n. streamFault (read w n page)) (λ page w n. Cuttable w n page)
+    (λ page w n. Exact.accepted w n page) (λ page w n. streamEntry w (read w n page))
 
 abbrev pub writer : Writer runs
 writer =
@@ -47,15 +50,18 @@ writer =
     (λ w xs few small. let back = stream-back w xs few small in (back .runs, back .cut))
     entries-back
 
-pub scan-is : (page : List ℕ) (w n op : ℕ) (a b : ℤ) (before : List ℕ) → Runs.scan page w n op a b before ≡ scans runs page w n op a b before
+pub scan-is : (page : List ℕ) (w n op : ℕ) (a b : ℤ) (before : List ℕ)
+    → Runs.scan page w n op a b before ≡ scans runs page w n op a b before
 unfolding Runs.scan
 scan-is page w n op a b before = refl
 
-pub unpack-is : (page : List ℕ) (w n : ℕ) (before : List ℕ) → Runs.unpack page w n before ≡ unpacks runs page w n before
+pub unpack-is : (page : List ℕ) (w n : ℕ) (before : List ℕ)
+    → Runs.unpack page w n before ≡ unpacks runs page w n before
 unfolding Runs.unpack
 unpack-is page w n before = refl
 
-pub pack-is : (entries : List ℕ) (w : ℕ) (before : List ℕ) → RunWriter.pack entries w before ≡ packs runs writer entries w before
+pub pack-is : (entries : List ℕ) (w : ℕ) (before : List ℕ)
+    → RunWriter.pack entries w before ≡ packs runs writer entries w before
 unfolding RunWriter.pack
 pack-is entries w before = refl
 
@@ -67,19 +73,24 @@ one-cut = Exact.unique
 
 module _ (page : List ℕ) (w n op : ℕ) (a b : ℤ) (before : List ℕ) {after : List ℕ} {r : Answer}
     (contract : outcome r after ≡ Runs.scan page w n op a b before) where
-  -- a scanner that refuses everything breaks its contract, and so does one that takes a page which the grammar does not
-  pub scan-accepted : r .code ≡ 0 ↔ (w ≤ 32 and n ≤ 16384) and op ≤ 7 and ceil n 8 ≤ length before and Cuttable w n page
+  -- a scanner that refuses everything breaks its contract, and so does one that takes a page which the grammar does
+  -- not
+  pub scan-accepted : r .code ≡ 0
+      ↔ (w ≤ 32 and n ≤ 16384) and op ≤ 7 and ceil n 8 ≤ length before and Cuttable w n page
   unfolding Runs.scan
   scan-accepted = Layouts.scan-accepted runs page w n op a b before contract
 
   -- the bitmap is that of the entries so cut
-  pub scan-cut : r .code ≡ 0 → (ps : List Piece) → Cut w n page ps → Selects n (λ i. holds op a b (pos (entryOf w ps i))) before after (r .number)
+  pub scan-cut : r .code ≡ 0 → (ps : List Piece) → Cut w n page ps
+      → Selects n (λ i. holds op a b (pos (entryOf w ps i))) before after (r .number)
   unfolding Runs.scan
   scan-cut ok ps cut =
-      subst (λ (s : Stream). Selects n (λ i. holds op a b (pos (streamEntry w s i))) before after (r .number)) (Exact.exact w n page ps .1 cut)
+      subst (λ (s : Stream). Selects n (λ i. holds op a b (pos (streamEntry w s i))) before after (r .number))
+      (Exact.exact w n page ps .1 cut)
       (Layouts.scan runs page w n op a b before contract .accepts ok)
 
-module _ (page : List ℕ) (w n : ℕ) (before : List ℕ) {after : List ℕ} {r : Answer} (contract : outcome r after ≡ Runs.unpack page w n before) where
+module _ (page : List ℕ) (w n : ℕ) (before : List ℕ) {after : List ℕ} {r : Answer}
+    (contract : outcome r after ≡ Runs.unpack page w n before) where
   pub unpack-accepted : r .code ≡ 0 ↔ (w ≤ 32 and n ≤ 16384) and n ≤ length before and Cuttable w n page
   unfolding Runs.unpack
   unpack-accepted = Layouts.unpack-accepted runs page w n before contract
@@ -96,20 +107,25 @@ module _ (entries : List ℕ) (w : ℕ) (before : List ℕ) {page : List ℕ} {r
     (contract : outcome r page ≡ RunWriter.pack entries w before) (ok : r .code ≡ 0) where
   -- the bytes written unpack to the entries, in any places that have room
   pub written-reads-back : (places : List ℕ) → length entries ≤ length places
-      → Runs.unpack (take (r .number) page) w (length entries) places ≡ outcome (accepted (length entries)) (put places 0 entries)
+      → Runs.unpack (take (r .number) page) w (length entries) places
+      ≡ outcome (accepted (length entries)) (put places 0 entries)
   unfolding Runs.unpack RunWriter.pack
   written-reads-back = packed-unpacks runs writer entries w before contract ok tt
 
   -- and a scan of them has the bitmap of the entries
   pub written-scans : (op : ℕ) (a b : ℤ) (bitmap : List ℕ)
       → Runs.scan (take (r .number) page) w (length entries) op a b bitmap
-      ≡ scanned (operatorFault op then roomFault (length bitmap) (ceil (length entries) 8)) (length entries) (λ i. holds op a b (pos (getD entries i 0))) bitmap
+      ≡ scanned (operatorFault op then roomFault (length bitmap) (ceil (length entries) 8)) (length entries)
+      (λ i. holds op a b (pos (getD entries i 0))) bitmap
   unfolding Runs.scan RunWriter.pack
   written-scans op a b bitmap = packed-scans runs writer entries w before contract ok tt op a b 0 bitmap
 
 -- CAHERMISK_RUNS_BYTES (include/cahermisk.h) is room for every list that fits
-pub room-suffices : (entries : List ℕ) (w : ℕ) (before : List ℕ) {page : List ℕ} {r : Answer} → outcome r page ≡ RunWriter.pack entries w before
-    → w ≤ 32 → length entries ≤ 16384 → Small w entries → (length entries + 7) / 8 * (w + 1) ≤ length before → r .code ≡ 0
+pub room-suffices : (entries : List ℕ) (w : ℕ) (before : List ℕ) {page : List ℕ} {r : Answer}
+    → outcome r page ≡ RunWriter.pack entries w before
+    → w ≤ 32 → length entries ≤ 16384 → Small w entries → (length entries + 7) / 8 * (w + 1) ≤ length before
+    → r .code ≡ 0
 unfolding RunWriter.pack
 room-suffices entries w before contract narrow few small room =
-    pack-accepted runs writer entries w before contract .1 ((narrow, few), (small, le-trans (stream-enough w entries few) room))
+    pack-accepted runs writer entries w before contract .1
+    ((narrow, few), (small, le-trans (stream-enough w entries few) room))

@@ -51,7 +51,8 @@ scan-promise fault n test before {after} {r} = promise fault (tally n test) (bit
   where
     gives : r .number ≡ tally n test → after ≡ put before 0 (bitmap n test) → Selects n test before after (r .number)
     gives number wrote =
-        let bytes : take (ceil n 8) after ≡ bitmap n test = ap (take (ceil n 8)) wrote ∙ front before (bitmap n test) (ceil n 8) (length-bitmap n test) in
+        let bytes : take (ceil n 8) after ≡ bitmap n test =
+        ap (take (ceil n 8)) wrote ∙ front before (bitmap n test) (ceil n 8) (length-bitmap n test) in
         let bits : (i : ℕ) → i < 8 * ceil n 8 → bitAt lowFirst 8 after i ≡ bitAt lowFirst 8 (bitmap n test) i =
         λ i h. bit-front (ceil n 8) after i h ∙ ap (λ (l : List ℕ). bitAt lowFirst 8 l i) bytes in
         record {
@@ -71,11 +72,14 @@ in-turn : (n : ℕ) (test : ℕ → Bool) → word n test ≡ inTurn n test
 unfolding inTurn word
 in-turn zero test = refl
 in-turn (suc n) test =
-    let one : word 1 (λ k. test (n + k)) ≡ flag (test n) = omega (arith, ap (λ (k : ℕ). flag (test k)) (add-zero n)) in
-    ap (λ (m : ℕ). word m test) (sym (add-one n)) ∙ word-add n 1 test ∙ ap₂ (λ (x y : ℕ). x + y * 2 ^ n) (in-turn n test) one
+    let one : word 1 (λ k. test (n + k)) ≡ flag (test n) =
+    omega (arith, ap (λ (k : ℕ). flag (test k)) (add-zero n)) in
+    ap (λ (m : ℕ). word m test) (sym (add-one n)) ∙ word-add n 1 test
+    ∙ ap₂ (λ (x y : ℕ). x + y * 2 ^ n) (in-turn n test) one
 
 -- a scan over 64 entries at once answers as a comparison of one entry after another does
 pub one-after-another : (fault n : ℕ) (test : ℕ → Bool) (before : List ℕ)
     → scanned fault n test before ≡ answered fault (tally n test) (bytes (ceil n 8) (inTurn n test)) before
 unfolding bitmap
-one-after-another fault n test before = ap (λ (x : ℕ). answered fault (tally n test) (bytes (ceil n 8) x) before) (in-turn n test)
+one-after-another fault n test before =
+    ap (λ (x : ℕ). answered fault (tally n test) (bytes (ceil n 8) x) before) (in-turn n test)

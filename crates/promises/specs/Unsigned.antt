@@ -1,4 +1,5 @@
--- The layouts of unsigned entries of one width: at most 32 bits and 16,384 entries, each entry of a list below 2^width.
+-- The layouts of unsigned entries of one width: at most 32 bits and 16,384 entries, each entry of a list below
+-- 2^width.
 use mathlib.Core.Path.{_≡_}
 use mathlib.Core.List.{List}
 use mathlib.Core.Logic.{_↔_}
@@ -29,12 +30,14 @@ unsigned fault Exact exact entry =
     }
 
 -- and a writer of such entries
-module _ (fault : List ℕ → ℕ → ℕ → ℕ) (Exact : List ℕ → ℕ → ℕ → Type 0) (exact : (page : List ℕ) (w n : ℕ) → fault page w n ≡ 0 ↔ Exact page w n)
+module _ (fault : List ℕ → ℕ → ℕ → ℕ) (Exact : List ℕ → ℕ → ℕ → Type 0)
+    (exact : (page : List ℕ) (w n : ℕ) → fault page w n ≡ 0 ↔ Exact page w n)
     (entry : List ℕ → ℕ → ℕ → ℕ → ℕ) where
   abbrev pub unsigned-writer : (packed : ℕ → List ℕ → List ℕ) (places : ℕ → List ℕ → ℕ)
       → ((w : ℕ) (xs : List ℕ) → length (packed w xs) ≡ places w xs)
       → ((w : ℕ) (xs : List ℕ) → length xs ≤ 16384 → Small w xs → Exact (packed w xs) w (length xs))
-      → ((w : ℕ) (xs : List ℕ) → length xs ≤ 16384 → Small w xs → tabulate (length xs) (entry (packed w xs) w (length xs)) ≡ xs)
+      → ((w : ℕ) (xs : List ℕ) → length xs ≤ 16384 → Small w xs
+      → tabulate (length xs) (entry (packed w xs) w (length xs)) ≡ xs)
       → Writer (unsigned fault Exact exact entry)
   unsigned-writer packed places length-packed packed-exact packed-entries =
       record {

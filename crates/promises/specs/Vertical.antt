@@ -1,4 +1,5 @@
--- Bit planes are a bare layout, and their three contracts are its. Entry i is bit i mod 64 of the w words of group i div 64, the first the highest.
+-- Bit planes are a bare layout, and their three contracts are its. Entry i is bit i mod 64 of the w words of group
+-- i div 64, the first the highest.
 use mathlib.Core.Path.{_≡_, refl}
 use mathlib.Core.List.{List}
 use Prim.Native.Nat.{ℕ}
@@ -6,7 +7,8 @@ use lib.IntN.{ℤ}
 use lib.ListN.{length}
 use Rattle.rules.specs.Vertical as Vertical
 use Rattle.packed_entries.specs.NoneTooLarge.{small-of, large-of}
-use Rattle.vertical_turn.specs.ColumnThereAndBack.{length-packed, entries-small, unpack-packed, unused-packed, pack-unpacked}
+use Rattle.vertical_turn.specs.ColumnThereAndBack.{length-packed, entries-small, unpack-packed, unused-packed}
+use Rattle.vertical_turn.specs.ColumnThereAndBack.{pack-unpacked}
 use Rattle.promises.specs.Layouts.{Layout, scans, unpacks}
 use Rattle.promises.specs.Writers.{Writer, packs}
 use Rattle.promises.specs.Unsigned.{unsigned, unsigned-writer}
@@ -20,7 +22,8 @@ abbrev pub writer : Writer vertical
 writer =
     unsigned-writer _ _ column-exact (λ words w n. Vertical.entry words w)
     Vertical.packed (λ w xs. Vertical.pageWords w (length xs)) length-packed
-    (λ w xs few small. exact (Vertical.packed w xs) w (length xs) .0 (length-packed w xs, unused-packed w xs (large-of w xs small)))
+    (λ w xs few small. exact (Vertical.packed w xs) w (length xs) .0
+    (length-packed w xs, unused-packed w xs (large-of w xs small)))
     (λ w xs few small. unpack-packed w xs (large-of w xs small))
 
 abbrev pub bare : Bare vertical writer
@@ -28,17 +31,21 @@ bare =
     record {
       bits = 64;
       entries-fit = λ w n words. small-of w _ (entries-small w n words);
-      entries-packed = λ w n words fits good. let e = exact words w n .1 good in pack-unpacked w n words fits (e .0) (e .1);
+      entries-packed =
+          λ w n words fits good. let e = exact words w n .1 good in pack-unpacked w n words fits (e .0) (e .1);
     }
 
-pub scan-is : (words : List ℕ) (w n op : ℕ) (a b : ℤ) (before : List ℕ) → Vertical.scan words w n op a b before ≡ scans vertical words w n op a b before
+pub scan-is : (words : List ℕ) (w n op : ℕ) (a b : ℤ) (before : List ℕ)
+    → Vertical.scan words w n op a b before ≡ scans vertical words w n op a b before
 unfolding Vertical.scan
 scan-is words w n op a b before = refl
 
-pub unpack-is : (words : List ℕ) (w n : ℕ) (before : List ℕ) → Vertical.unpack words w n before ≡ unpacks vertical words w n before
+pub unpack-is : (words : List ℕ) (w n : ℕ) (before : List ℕ)
+    → Vertical.unpack words w n before ≡ unpacks vertical words w n before
 unfolding Vertical.unpack
 unpack-is words w n before = refl
 
-pub pack-is : (entries : List ℕ) (w : ℕ) (before : List ℕ) → Vertical.pack entries w before ≡ packs vertical writer entries w before
+pub pack-is : (entries : List ℕ) (w : ℕ) (before : List ℕ)
+    → Vertical.pack entries w before ≡ packs vertical writer entries w before
 unfolding Vertical.pack
 pack-is entries w before = refl

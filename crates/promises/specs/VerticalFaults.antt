@@ -31,7 +31,8 @@ module _ (words : List ℕ) (w n : ℕ) where
     λ good. (
       good .all-words,
       none-below (64 * ceil n 64 - n) (λ k. ltb 0 (entry words w (n + k)))
-          (λ k t. let none : entry words w (n + k) ≡ 0 = good .unused-clear (n + k) (omega arith) (omega arith) in le-ltb 0 (entry words w (n + k)) (omega arith)),
+          (λ k t. let none : entry words w (n + k) ≡ 0 = good .unused-clear (n + k) (omega arith) (omega arith) in
+          le-ltb 0 (entry words w (n + k)) (omega arith)),
     ),
   )
 
@@ -40,5 +41,6 @@ module _ (words : List ℕ) (w n : ℕ) where
   unfolding pageFault
   column-exact =
       Iff·trans
-      (neither _ _ (not-below _ _ 5 (λ e. omega arith)) (neither _ _ (not-below _ _ 6 (λ e. omega arith)) (no-fault _ 7 (λ e. omega arith))))
+      (neither _ _ (not-below _ _ 5 (λ e. omega arith))
+      (neither _ _ (not-below _ _ 6 (λ e. omega arith)) (no-fault _ 7 (λ e. omega arith))))
       (Iff·trans (as-many (length words) (pageWords w n)) exact)

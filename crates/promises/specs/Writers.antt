@@ -29,17 +29,23 @@ pub record Writer {K A : Type 0} (L : Layout K A) : Type 1 where
   pub length-packed : (k : K) (xs : List A) → length (packed k xs) ≡ places k xs
   -- of entries that the lent list can hold (numbers of its places' bits) it has no fault, and they are read back
   pub Held : List A → Type 0
-  pub packed-exact : (k : K) (xs : List A) → L .Kept k (length xs) → Fit k xs → Held xs → L .Exact (packed k xs) k (length xs)
-  pub packed-entries : (k : K) (xs : List A) → L .Kept k (length xs) → Fit k xs → Held xs → tabulate (length xs) (L .entry (packed k xs) k (length xs)) ≡ xs
+  pub packed-exact : (k : K) (xs : List A) → L .Kept k (length xs) → Fit k xs → Held xs
+      → L .Exact (packed k xs) k (length xs)
+  pub packed-entries : (k : K) (xs : List A) → L .Kept k (length xs) → Fit k xs → Held xs
+      → tabulate (length xs) (L .entry (packed k xs) k (length xs)) ≡ xs
 
 module _ {K A : Type 0} (L : Layout K A) (W : Writer L) where
   -- the contract of its pack
   abbrev pub packs : List A → K → List ℕ → Outcome ℕ
   packs entries k before =
-      written (L .limits k (length entries) then W .unfit k entries then roomFault (length before) (W .places k entries)) (W .packed k entries) before
+      written
+      (L .limits k (length entries) then W .unfit k entries
+      then roomFault (length before) (W .places k entries)) (W .packed k entries) before
 
-  module _ (xs : List A) (k : K) (before : List ℕ) {after : List ℕ} {r : Answer} (contract : outcome r after ≡ packs xs k before) where
-    -- pack: the limits', the entries', 4; the number is the length of the page that the entries make, which stands in the first places
+  module _ (xs : List A) (k : K) (before : List ℕ) {after : List ℕ} {r : Answer}
+      (contract : outcome r after ≡ packs xs k before) where
+    -- pack: the limits', the entries', 4; the number is the length of the page that the entries make, which stands
+    -- in the first places
     pub pack : Promise
         (L .limits k (length xs) then W .unfit k xs then roomFault (length before) (W .places k xs))
         before after r
@@ -65,13 +71,15 @@ module _ {K A : Type 0} (L : Layout K A) (W : Writer L) where
         let page : List ℕ = W .packed k xs in
         rw (page-is ok)
         (written-accepted _ _ xs before
-        (unpack-good _ _ (L .kept k n) (L .exact page k n) n (length before) .1 (good .0, (room, W .packed-exact k xs (good .0) (good .1 .0) held)))
+        (unpack-good _ _ (L .kept k n) (L .exact page k n) n (length before) .1
+        (good .0, (room, W .packed-exact k xs (good .0) (good .1 .0) held)))
         (W .packed-entries k xs (good .0) (good .1 .0) held))
 
     -- and a scan of it compares the entries: nothing but an unknown operator or a bitmap too short is refused
     pub packed-scans : r .code ≡ 0 → W .Held xs → (op : ℕ) (a b : ℤ) (d : A) (bitmap : List ℕ)
         → scans L (take (r .number) after) k (length xs) op a b bitmap
-        ≡ scanned (operatorFault op then roomFault (length bitmap) (ceil (length xs) 8)) (length xs) (λ i. holds op a b (L .whole (getD xs i d))) bitmap
+        ≡ scanned (operatorFault op then roomFault (length bitmap) (ceil (length xs) 8)) (length xs)
+        (λ i. holds op a b (L .whole (getD xs i d))) bitmap
     packed-scans ok held op a b d bitmap =
         let n : ℕ = length xs in
         let good = pack-accepted .0 ok in
@@ -80,4 +88,6 @@ module _ {K A : Type 0} (L : Layout K A) (W : Writer L) where
         let read : tabulate n f ≡ xs = W .packed-entries k xs (good .0) (good .1 .0) held in
         let none : L .fault page k n ≡ 0 = L .exact page k n .1 (W .packed-exact k xs (good .0) (good .1 .0) held) in
         rw (page-is ok, then-none _ _ (L .kept k n .1 (good .0)), then-last _ _ none)
-        (scanned-ext _ n _ _ bitmap (λ i h. ap (λ (x : A). holds op a b (L .whole x)) (sym (getD-tabulate n f i d h) ∙ ap (λ (l : List A). getD l i d) read)))
+        (scanned-ext _ n _ _ bitmap
+        (λ i h. ap (λ (x : A). holds op a b (L .whole x))
+        (sym (getD-tabulate n f i d h) ∙ ap (λ (l : List A). getD l i d) read)))

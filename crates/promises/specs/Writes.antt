@@ -52,7 +52,9 @@ module _ {A : Type 0} where
       let places : take n after ≡ tabulate n value = ap (take n) e ∙ front before (tabulate n value) n size in
       record {
         number-is = number ∙ size;
-        place-is = λ i d h. sym (getD-take n after i d h) ∙ ap (λ (l : List A). getD l i d) places ∙ getD-tabulate n value i d h;
+        place-is =
+            λ i d h. sym (getD-take n after i d h) ∙ ap (λ (l : List A). getD l i d) places ∙ getD-tabulate n value
+            i d h;
         later-kept = ap (drop n) e ∙ behind before (tabulate n value) n size;
       })
 

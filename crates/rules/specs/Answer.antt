@@ -1,4 +1,5 @@
--- The shape of every answer: what the code, the number and the lent places are. A layout gives its first fault and its entries.
+-- The shape of every answer: what the code, the number and the lent places are. A layout gives its first fault and
+-- its entries.
 use mathlib.Core.Bool.{Bool, true, false, _||_}
 use mathlib.Core.List.{List, [], _∷_}
 use Prim.Native.Nat.{ℕ, zero, suc, _^_}

@@ -10,7 +10,8 @@ use lib.Signed.{ltZ, leZ}
 unfoldable pub between : ℤ → ℤ → ℤ → Bool
 between a b x = leZ a x && leZ x b
 
--- the operators 0 to 7: equal to a (from a to a), not equal, less, less or equal, greater, greater or equal, from a to b, not from a to b
+-- the operators 0 to 7: equal to a (from a to a), not equal, less, less or equal, greater, greater or equal, from a
+-- to b, not from a to b
 unfoldable pub operators : ℤ → ℤ → ℤ → List Bool
 operators a b x =
     between a a x

@@ -18,10 +18,13 @@ use Rattle.rules.specs.declared.Block.the-variants.{Laid, Unlaid}
 
 -- ---- the header
 
--- block size a multiple of 128, from 128 to 16,384; the miniblock count at least 1, a divisor of it; the quotient a multiple of 32
+-- block size a multiple of 128, from 128 to 16,384; the miniblock count at least 1, a divisor of it; the quotient a
+-- multiple of 32
 unfoldable pub shaped : ℕ → ℕ → Bool
 shaped size minis =
-    leb 128 size && (leb size 16384 && (eqb (size % 128) 0 && (ltb 0 minis && (eqb (size % minis) 0 && eqb (size / minis % 32) 0))))
+    leb 128 size
+    && (leb size 16384
+    && (eqb (size % 128) 0 && (ltb 0 minis && (eqb (size % minis) 0 && eqb (size / minis % 32) 0))))
 
 -- block size, miniblocks per block, count, first value: all four are read, then 12, then 13
 unfoldable pub headAt : ℕ → ℕ → List ℕ → Head
@@ -62,9 +65,11 @@ laidAt h minis need m page widths (suc code) = Unlaid (suc code)
 
 unfoldable pub blockAt : ℕ → ℕ → ℕ → ℕ → List ℕ → ℕ → Block
 blockAt W minis need m page at =
-    reading Unlaid (numberAt W page at) (λ h widths. laidAt h minis need m page widths (widthFault W minis need (drop widths page)))
+    reading Unlaid (numberAt W page at)
+    (λ h widths. laidAt h minis need m page widths (widthFault W minis need (drop widths page)))
 
--- the m deltas of a miniblock of width w whose body begins at `body`, packed horizontally: smallest delta plus packed number
+-- the m deltas of a miniblock of width w whose body begins at `body`, packed horizontally: smallest delta plus
+-- packed number
 unfoldable pub miniDeltas : ℕ → ℤ → List ℕ → ℕ → ℕ → List ℤ
 miniDeltas m least page body w = tabulate m (λ j. least +ℤ pos (entry lowFirst (drop body page) w j))
 
@@ -95,7 +100,8 @@ atEnd false = good []
 abbrev pub after : ℕ → ℕ → ℕ → List ℕ → (ℕ → ℕ → Deltas) → Block → Deltas
 after size minis left page onward (Unlaid code) = bad code
 after size minis left page onward (Laid h widths next) =
-    also (blockDeltas (needed minis (size / minis) left) (size / minis) (zigzag h) page widths (widths + minis)) (onward (left - size) next)
+    also (blockDeltas (needed minis (size / minis) left) (size / minis) (zigzag h) page widths (widths + minis))
+    (onward (left - size) next)
 
 -- each block holds a delta or more, so as many turns as deltas are enough
 abbrev pub blocksAt : ℕ → ℕ → ℕ → ℕ → ℕ → List ℕ → ℕ → Deltas

@@ -45,14 +45,16 @@ widthFor W (x ∷ xs) = max (widthOf W x) (widthFor W xs)
 abbrev pub filled : List ℕ → List ℕ
 filled xs = tabulate 32 (λ i. getD xs i 0)
 
--- the width bytes of some miniblocks, and their bodies, packed horizontally; a miniblock of no deltas has width 0 and no body
+-- the width bytes of some miniblocks, and their bodies, packed horizontally; a miniblock of no deltas has width 0
+-- and no body
 abbrev pub widths : ℕ → ℕ → List ℕ → List ℕ
 widths zero W xs = []
 widths (suc minis) W xs = widthFor W (take 32 xs) ∷ widths minis W (drop 32 xs)
 
 abbrev pub bodies : ℕ → ℕ → List ℕ → List ℕ
 bodies zero W xs = []
-bodies (suc minis) W xs = packed lowFirst (widthFor W (take 32 xs)) (filled (take 32 xs)) ++ bodies minis W (drop 32 xs)
+bodies (suc minis) W xs =
+    packed lowFirst (widthFor W (take 32 xs)) (filled (take 32 xs)) ++ bodies minis W (drop 32 xs)
 
 -- a block of at most 128 deltas
 unfoldable pub block : ℕ → List ℤ → List ℕ

@@ -1,4 +1,5 @@
--- Run streams by the published grammar, apart from any reader: how bytes are cut into runs of width w that cover n entries.
+-- Run streams by the published grammar, apart from any reader: how bytes are cut into runs of width w that cover n
+-- entries.
 use mathlib.Core.Path.{_≡_}
 use mathlib.Core.List.{List, [], _∷_, _++_}
 use Prim.Native.Nat.{ℕ, _+_, _-_, _*_, _%_, _^_, _<_, _≤_}
@@ -20,12 +21,15 @@ pub record Header (t : List ℕ) (h : ℕ) : Type 0 where
 
 -- the bytes are one run, where `left` entries are not yet covered
 pub data OneRun (w left : ℕ) : List ℕ → Piece → Type 0 where
-  repeats : {count : ℕ} (t v : List ℕ) → Header t (2 * count) → 0 < count → count ≤ left → length v ≡ ceil w 8 → number v < 2 ^ w
+  repeats : {count : ℕ} (t v : List ℕ) → Header t (2 * count) → 0 < count → count ≤ left → length v ≡ ceil w 8
+      → number v < 2 ^ w
       → OneRun w left (t ++ v) (same (length (t ++ v)) count (number v))
-  packs : {groups : ℕ} (t body : List ℕ) → Header t (2 * groups + 1) → 0 < groups → 8 * groups ≤ left + 7 → length body ≡ w * groups
+  packs : {groups : ℕ} (t body : List ℕ) → Header t (2 * groups + 1) → 0 < groups → 8 * groups ≤ left + 7
+      → length body ≡ w * groups
       → OneRun w left (t ++ body) (packed (length (t ++ body)) groups body)
 
 -- a run starts only while fewer than n are covered, and the stream ends with the run that reaches n
 pub data Cut (w : ℕ) : ℕ → List ℕ → List Piece → Type 0 where
   done : Cut w 0 [] []
-  next : {left : ℕ} {p : Piece} {ps : List Piece} (t s : List ℕ) → 0 < left → OneRun w left t p → Cut w (left - entries p) s ps → Cut w left (t ++ s) (p ∷ ps)
+  next : {left : ℕ} {p : Piece} {ps : List Piece} (t s : List ℕ) → 0 < left → OneRun w left t p
+      → Cut w (left - entries p) s ps → Cut w left (t ++ s) (p ∷ ps)

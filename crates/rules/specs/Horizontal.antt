@@ -1,11 +1,13 @@
--- Bare horizontal pages: entries of w bits end to end, over the bit order (lowest first; the older form has the highest first).
+-- Bare horizontal pages: entries of w bits end to end, over the bit order (lowest first; the older form has the
+-- highest first).
 use mathlib.Core.List.{List}
 use Prim.Native.Nat.{ℕ, _*_, _-_}
 use lib.IntN.{ℤ, pos}
 use lib.Dec.{ltb}
 use lib.ListN.{length}
 use Rattle.rules.specs.Bits.{Order, field, entry, entryByte, ceil, tabulate}
-use Rattle.rules.specs.Answer.{faulty, _then_, limitFault, operatorFault, roomFault, largeFault, Outcome, scanned, written}
+use Rattle.rules.specs.Answer.{faulty, _then_, limitFault, operatorFault, roomFault, largeFault, Outcome}
+use Rattle.rules.specs.Answer.{scanned, written}
 use Rattle.rules.specs.Comparison.{holds}
 
 -- the page has exactly ceil(n × w / 8) bytes
@@ -45,5 +47,6 @@ packed o w entries = tabulate (pageBytes w (length entries)) (entryByte o w entr
 unfoldable pub pack : Order → List ℕ → ℕ → List ℕ → Outcome ℕ
 pack o entries w before =
     written
-    (limitFault w (length entries) then largeFault w entries then roomFault (length before) (pageBytes w (length entries)))
+    (limitFault w (length entries) then largeFault w entries
+    then roomFault (length before) (pageBytes w (length entries)))
     (packed o w entries) before

@@ -54,7 +54,8 @@ runBytes w s (Packs groups) = shortest (2 * groups + 1) ++ packed lowFirst w (fi
 abbrev pub streamBy : ℕ → ℕ → List ℕ → List ℕ
 streamBy w zero s = []
 streamBy w (suc turns) [] = []
-streamBy w (suc turns) (x ∷ s) = runBytes w (x ∷ s) (nextRun (x ∷ s)) ++ streamBy w turns (drop (taken (nextRun (x ∷ s))) (x ∷ s))
+streamBy w (suc turns) (x ∷ s) =
+    runBytes w (x ∷ s) (nextRun (x ∷ s)) ++ streamBy w turns (drop (taken (nextRun (x ∷ s))) (x ∷ s))
 
 unfoldable pub stream : ℕ → List ℕ → List ℕ
 stream w entries = streamBy w (length entries) entries
@@ -63,5 +64,6 @@ stream w entries = streamBy w (length entries) entries
 unfoldable pub pack : List ℕ → ℕ → List ℕ → Outcome ℕ
 pack entries w before =
     written
-    (limitFault w (length entries) then largeFault w entries then roomFault (length before) (length (stream w entries)))
+    (limitFault w (length entries) then largeFault w entries
+    then roomFault (length before) (length (stream w entries)))
     (stream w entries) before

@@ -23,7 +23,8 @@ unfoldable pub repeatedAt : ℕ → ℕ → List ℕ → ℕ → ℕ → Run
 repeatedAt w left page count at =
     cond (ltb left count) (Refused 11)
     (cond (ltb (length page - at) (ceil w 8)) (Refused 5)
-    (cond (ltb (number (take (ceil w 8) (drop at page))) (2 ^ w)) (Repeated count (number (take (ceil w 8) (drop at page))) (at + ceil w 8)) (Refused 8)))
+    (cond (ltb (number (take (ceil w 8) (drop at page))) (2 ^ w))
+    (Repeated count (number (take (ceil w 8) (drop at page))) (at + ceil w 8)) (Refused 8)))
 
 -- `groups` groups of 8 entries, w bytes each, from `at` on: 11, the body's 5
 unfoldable pub packedAt : ℕ → ℕ → List ℕ → ℕ → ℕ → Run
@@ -81,15 +82,18 @@ atEnd false = good []
 -- a run, and what follows it: `onward` reads on with the entries still wanted, at the next place
 abbrev pub after : ℕ → ℕ → List ℕ → ℕ → (ℕ → ℕ → Stream) → Run → Stream
 after w left page at onward (Refused code) = bad code
-after w left page at onward (Repeated count value next) = also (same (next - at) count value) (onward (left - count) next)
-after w left page at onward (Packed groups start next) = also (packed (next - at) groups (take (w * groups) (drop start page))) (onward (left - 8 * groups) next)
+after w left page at onward (Repeated count value next) =
+    also (same (next - at) count value) (onward (left - count) next)
+after w left page at onward (Packed groups start next) =
+    also (packed (next - at) groups (take (w * groups) (drop start page))) (onward (left - 8 * groups) next)
 
 -- each run has an entry or more, so as many turns as entries are enough
 abbrev pub readAt : ℕ → ℕ → ℕ → List ℕ → ℕ → Stream
 readAt w zero zero page at = atEnd (ltb at (length page))
 readAt w zero (suc left) page at = bad 5
 readAt w (suc turns) zero page at = atEnd (ltb at (length page))
-readAt w (suc turns) (suc left) page at = after w (suc left) page at (λ l next. readAt w turns l page next) (runAt w (suc left) page at)
+readAt w (suc turns) (suc left) page at =
+    after w (suc left) page at (λ l next. readAt w turns l page next) (runAt w (suc left) page at)
 
 unfoldable pub read : ℕ → ℕ → List ℕ → Stream
 read w n page = readAt w n n page 0
@@ -125,24 +129,32 @@ oneAt w n covered page at =
     (cond (ltb (length page) at) (Refused 5)
     (cond (leb n covered) (Refused 11) (runAt w (n - covered) page at))))
 
--- what is handed back of it: the packed bytes, as a part of the page, and beside it code, kind, length in entries, repeated value, next place
+-- what is handed back of it: the packed bytes, as a part of the page, and beside it code, kind, length in entries,
+-- repeated value, next place
 pub data Handed : Type 0 where
   handed : List ℕ → List ℕ → Handed
 
--- an empty part and kind 0 for a repeated run, and for a refused one, whose length, value and next place are 0; kind 1 for a packed run, 8 entries a group, also past n
+-- an empty part and kind 0 for a repeated run, and for a refused one, whose length, value and next place are 0;
+-- kind 1 for a packed run, 8 entries a group, also past n
 abbrev pub handedBack : List ℕ → Run → Handed
 handedBack page (Refused code) = handed [] (code ∷ 0 ∷ 0 ∷ 0 ∷ 0 ∷ [])
 handedBack page (Repeated count value next) = handed [] (0 ∷ 0 ∷ count ∷ value ∷ next ∷ [])
-handedBack page (Packed groups start next) = handed (take (next - start) (drop start page)) (0 ∷ 1 ∷ (8 * groups) ∷ 0 ∷ next ∷ [])
+handedBack page (Packed groups start next) =
+    handed (take (next - start) (drop start page)) (0 ∷ 1 ∷ (8 * groups) ∷ 0 ∷ next ∷ [])
 
 unfoldable pub oneRun : ℕ → ℕ → ℕ → List ℕ → ℕ → Handed
 oneRun w n covered page at = handedBack page (oneAt w n covered page at)
 
--- the same as numbers, for who gets no part of the page: where the packed bytes begin, and how many they are; both 0 for a repeated and a refused run
+-- the same as numbers, for who gets no part of the page: where the packed bytes begin, and how many they are; both
+-- 0 for a repeated and a refused run
 abbrev pub answerOf : Run → RunAnswer
-answerOf (Refused code) = record { code = code; kind = 0; length = 0; value = 0; next = 0; «body_at» = 0; «body_len» = 0 }
-answerOf (Repeated count value next) = record { code = 0; kind = 0; length = count; value = value; next = next; «body_at» = 0; «body_len» = 0 }
-answerOf (Packed groups start next) = record { code = 0; kind = 1; length = 8 * groups; value = 0; next = next; «body_at» = start; «body_len» = next - start }
+answerOf (Refused code) =
+    record { code = code; kind = 0; length = 0; value = 0; next = 0; «body_at» = 0; «body_len» = 0 }
+answerOf (Repeated count value next) =
+    record { code = 0; kind = 0; length = count; value = value; next = next; «body_at» = 0; «body_len» = 0 }
+answerOf (Packed groups start next) =
+    record
+    { code = 0; kind = 1; length = 8 * groups; value = 0; next = next; «body_at» = start; «body_len» = next - start }
 
 unfoldable pub oneAnswer : ℕ → ℕ → ℕ → List ℕ → ℕ → RunAnswer
 oneAnswer w n covered page at = answerOf (oneAt w n covered page at)

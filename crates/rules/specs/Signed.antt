@@ -1,4 +1,5 @@
--- Signed numbers of W bits: zigzag, wrapping, and how far one is above another. Over the width W of the kind: 32, and later 64.
+-- Signed numbers of W bits: zigzag, wrapping, and how far one is above another. Over the width W of the kind: 32,
+-- and later 64.
 use mathlib.Core.Bool.{cond}
 use Prim.Native.Nat.{ℕ, suc, _+_, _-_, _*_, _/_, _%_, _^_, _<_}
 use lib.Dec.{ltb, eqb}

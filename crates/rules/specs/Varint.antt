@@ -13,7 +13,8 @@ below b (Read v used) = Read (b % 128 + 128 * v) (suc used)
 below b Ended = Ended
 below b Beyond = Beyond
 
--- the number in front of some bytes, with how many it takes: at most `more` after the first, and the last of so many is below `top`
+-- the number in front of some bytes, with how many it takes: at most `more` after the first, and the last of so
+-- many is below `top`
 abbrev pub uleb : ℕ → ℕ → List ℕ → Number
 uleb top zero [] = Ended
 uleb top (suc more) [] = Ended

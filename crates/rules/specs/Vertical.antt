@@ -1,4 +1,5 @@
--- Bit planes: groups of 64 entries, each group w words of 64 bits, the entries' most significant bit first; entry j of a group is bit j.
+-- Bit planes: groups of 64 entries, each group w words of 64 bits, the entries' most significant bit first; entry j
+-- of a group is bit j.
 use mathlib.Core.Bool.{Bool}
 use mathlib.Core.List.{List}
 use Prim.Native.Nat.{ℕ, zero, suc, _+_, _*_, _-_, _/_, _%_}
@@ -6,7 +7,8 @@ use lib.IntN.{ℤ, pos}
 use lib.Dec.{ltb}
 use lib.ListN.{length, getD}
 use Rattle.rules.specs.Bits.{bit, word, ceil, tabulate, someBelow}
-use Rattle.rules.specs.Answer.{faulty, _then_, limitFault, operatorFault, roomFault, largeFault, Outcome, scanned, written}
+use Rattle.rules.specs.Answer.{faulty, _then_, limitFault, operatorFault, roomFault, largeFault, Outcome}
+use Rattle.rules.specs.Answer.{scanned, written}
 use Rattle.rules.specs.Comparison.{holds}
 
 -- the column has exactly ceil(n/64) × w words
@@ -59,5 +61,6 @@ packed w entries = tabulate (pageWords w (length entries)) (λ i. plane w entrie
 unfoldable pub pack : List ℕ → ℕ → List ℕ → Outcome ℕ
 pack entries w before =
     written
-    (limitFault w (length entries) then largeFault w entries then roomFault (length before) (pageWords w (length entries)))
+    (limitFault w (length entries) then largeFault w entries
+    then roomFault (length before) (pageWords w (length entries)))
     (packed w entries) before

@@ -29,7 +29,8 @@ pub enum Run {
     Refused(u32),
 }
 
-// One run asked for by itself, as numbers: the packed bytes by their place on the page and how many they are.
+// One run asked for by itself, as numbers: the packed bytes by their place on the page and how many they
+// are.
 #[repr(C)]
 pub struct RunAnswer {
     pub code: u32,
@@ -47,13 +48,15 @@ pub enum Next {
     Packs(usize),
 }
 
-// The header of a delta page: block size, miniblocks per block, the first value's number, the next place; or a code.
+// The header of a delta page: block size, miniblocks per block, the first value's number, the next place;
+// or a code.
 pub enum Head {
     Opened(u64, u64, u64, usize),
     Unopened(u32),
 }
 
-// A block of a delta page: the smallest delta's number, the place of its width bytes, the next block's place; or a code.
+// A block of a delta page: the smallest delta's number, the place of its width bytes, the next block's
+// place; or a code.
 pub enum Block {
     Laid(u64, usize, usize),
     Unlaid(u32),

@@ -44,8 +44,10 @@ unfolding selected
 selected-number page z w n test = number-padded z n (λ i. test (entry lowFirst page w i))
 
 -- what a comparison writes from byte a on is what it puts from that byte's first bit on
-pub selected-whole : (l ys page : List ℕ) (a p w n : ℕ) (test : ℕ → Bool) → 8 * a ≡ p → ys ≡ put (take (length l - a) (drop a l)) 0 (selected page n w test)
-    → take a l ++ (ys ++ drop (length l - a) (drop a l)) ≡ appended l p (word n (λ i. test (entry lowFirst page w i))) n
+pub selected-whole : (l ys page : List ℕ) (a p w n : ℕ) (test : ℕ → Bool) → 8 * a ≡ p
+    → ys ≡ put (take (length l - a) (drop a l)) 0 (selected page n w test)
+    → take a l ++ (ys ++ drop (length l - a) (drop a l))
+    ≡ appended l p (word n (λ i. test (entry lowFirst page w i))) n
 unfolding selected bitmap
 selected-whole l ys page a p w n test place e =
     let x : ℕ = word n (λ i. test (entry lowFirst page w i)) in
@@ -55,12 +57,15 @@ selected-whole l ys page a p w n test place e =
 
 -- entries that lie in n bytes from byte a on
 pub part-word : (body : List ℕ) (a n w k : ℕ) (test : ℕ → Bool) → k * w ≤ 8 * n
-    → word k (λ i. test (entry lowFirst (take n (drop a body)) w i)) ≡ word k (λ i. test (field lowFirst body (8 * a + i * w) w))
-part-word body a n w k test h = word-ext k (λ i l. ap test (field-window body a n (i * w) w (omega (arith, place-within w i k l))))
+    → word k (λ i. test (entry lowFirst (take n (drop a body)) w i))
+    ≡ word k (λ i. test (field lowFirst body (8 * a + i * w) w))
+part-word body a n w k test h =
+    word-ext k (λ i l. ap test (field-window body a n (i * w) w (omega (arith, place-within w i k l))))
 
 -- the entries behind g groups of eight, whose bytes end at `at`
 pub group-word : (body : List ℕ) (g w at k : ℕ) (test : ℕ → Bool) → at ≡ g * w
-    → word k (λ i. test (field lowFirst body (8 * at + i * w) w)) ≡ word k (λ i. test (entry lowFirst body w (8 * g + i)))
+    → word k (λ i. test (field lowFirst body (8 * at + i * w) w))
+    ≡ word k (λ i. test (entry lowFirst body w (8 * g + i)))
 group-word body g w at k test e =
     let places : (i : ℕ) → 8 * at + i * w ≡ (8 * g + i) * w = λ i. rw (e, add-mul, mul-assoc) in
     word-ext k (λ i l. ap (λ (b : ℕ). test (field lowFirst body b w)) (places i))

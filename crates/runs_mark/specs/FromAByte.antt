@@ -26,13 +26,16 @@ unfolding bytes
 whole-none l a = put-none l a ∙ sym (appended-whole l a 0 0)
 
 -- a byte stored is eight entries put
-byte-stored : (l : List ℕ) (a : ℕ) (f : ℕ → Bool) → a < length l → set l a (word 8 f) ≡ appended l (8 * a) (word 8 f) 8
+byte-stored : (l : List ℕ) (a : ℕ) (f : ℕ → Bool) → a < length l
+    → set l a (word 8 f) ≡ appended l (8 * a) (word 8 f) 8
 unfolding bytes
 byte-stored l a f h =
-    set-put l a (word 8 f) h ∙ ap (λ (x : ℕ). put l a (x ∷ [])) (sym (mod-eq-of-lt (word-lt 8 f))) ∙ sym (appended-whole l a (word 8 f) 8)
+    set-put l a (word 8 f) h ∙ ap (λ (x : ℕ). put l a (x ∷ [])) (sym (mod-eq-of-lt (word-lt 8 f)))
+    ∙ sym (appended-whole l a (word 8 f) 8)
 
 -- one byte more behind i bytes
-pub next-stored : (l b : List ℕ) (a i : ℕ) (f : ℕ → Bool) → a + i < length b → length b ≡ length l → b ≡ appended l (8 * a) (word (8 * i) f) (8 * i)
+pub next-stored : (l b : List ℕ) (a i : ℕ) (f : ℕ → Bool) → a + i < length b → length b ≡ length l
+    → b ≡ appended l (8 * a) (word (8 * i) f) (8 * i)
     → set b (a + i) (word 8 (λ j. f (8 * i + j))) ≡ appended l (8 * a) (word (8 * (i + 1)) f) (8 * (i + 1))
 next-stored l b a i f h size e =
     words-twice l b _ (8 * a) (8 * i) 8 (8 * (a + i)) (8 * (i + 1)) f (omega arith) (omega arith) (omega arith) e

@@ -23,7 +23,8 @@ bits-56 s i h =
     ∙ field-number s (8 * i) 56 h
 
 -- the last piece is what is left of the number
-pub last-piece : (n m k j : ℕ) → k ≤ j → n < 2 ^ (m + k) → (n / 2 ^ m % 2 ^ j ≡ n / 2 ^ m) × (n / 2 ^ m % 2 ^ j < 2 ^ k)
+pub last-piece : (n m k j : ℕ) → k ≤ j → n < 2 ^ (m + k)
+    → (n / 2 ^ m % 2 ^ j ≡ n / 2 ^ m) × (n / 2 ^ m % 2 ^ j < 2 ^ k)
 last-piece n m k j h small =
     let rest : n / 2 ^ m < 2 ^ k = shr-lt k m (rw (add-comm k m) small) in
     let same : n / 2 ^ m % 2 ^ j ≡ n / 2 ^ m = mod-eq-of-lt (lt-of-lt-of-le rest (pow-mono h)) in
@@ -35,15 +36,18 @@ module _ (l : List ℕ) (p n : ℕ) where
 
   module _ (b c : List ℕ) (m k : ℕ) where
     -- k bits more
-    pub pieces-more : p + m ≤ 8 * length b → Begun l p (n % 2 ^ m) m b → c ≡ appended b (p + m) (n / 2 ^ m % 2 ^ k) k → Begun l p (n % 2 ^ (m + k)) (m + k) c
+    pub pieces-more : p + m ≤ 8 * length b → Begun l p (n % 2 ^ m) m b
+        → c ≡ appended b (p + m) (n / 2 ^ m % 2 ^ k) k → Begun l p (n % 2 ^ (m + k)) (m + k) c
     pieces-more room h e =
         let v : ℕ = n / 2 ^ m % 2 ^ k in
         let more : n % 2 ^ (m + k) ≡ n % 2 ^ m + v * 2 ^ m =
         ap (λ (j : ℕ). n % 2 ^ j) (add-comm m k) ∙ mod-pow-add n k m ∙ add-comm (v * 2 ^ m) (n % 2 ^ m) in
         rw more (begun-more l b c p m k room (n % 2 ^ m) v (mod-lt (n / 2 ^ m) (pow-pos k)) h e)
 
-    pub pieces-all : (j : ℕ) → k ≤ j → n < 2 ^ (m + k) → Begun l p (n % 2 ^ m) m b → c ≡ appended b (p + m) (n / 2 ^ m % 2 ^ j) k → c ≡ appended l p n (m + k)
+    pub pieces-all : (j : ℕ) → k ≤ j → n < 2 ^ (m + k) → Begun l p (n % 2 ^ m) m b
+        → c ≡ appended b (p + m) (n / 2 ^ m % 2 ^ j) k → c ≡ appended l p n (m + k)
     pieces-all j h small begun e =
         let v : ℕ = n / 2 ^ m in
         let whole : n % 2 ^ m + v * 2 ^ m ≡ n = add-comm (n % 2 ^ m) (v * 2 ^ m) ∙ split n m in
-        e ∙ ap (λ (x : ℕ). appended b (p + m) x k) (last-piece n m k j h small .0) ∙ begun v k ∙ ap (λ (x : ℕ). appended l p x (m + k)) whole
+        e ∙ ap (λ (x : ℕ). appended b (p + m) x k) (last-piece n m k j h small .0) ∙ begun v k
+        ∙ ap (λ (x : ℕ). appended l p x (m + k)) whole

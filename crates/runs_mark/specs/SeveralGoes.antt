@@ -14,7 +14,8 @@ use Rattle.words.specs.Bits.{word-lt, word-add}
 use Rattle.words.specs.Appended.{appended, appended-bits}
 
 -- bits put behind a whole bytes change only what follows those bytes
-appended-part : (u t : List ℕ) (a q y k : ℕ) → length u ≡ a → appended (u ++ t) (8 * a + q) y k ≡ u ++ appended t q y k
+appended-part : (u t : List ℕ) (a q y k : ℕ) → length u ≡ a
+    → appended (u ++ t) (8 * a + q) y k ≡ u ++ appended t q y k
 unfolding appended
 appended-part u t a q y k e =
     let byte : (8 * a + q) / 8 ≡ length u + q / 8 = omega arith in
@@ -68,23 +69,28 @@ begun-none l p y k =
 
 module _ (l b c : List ℕ) (p m k : ℕ) (room : p + m ≤ 8 * length b) where
   -- k bits more
-  pub begun-more : (x v : ℕ) → v < 2 ^ k → Begun l p x m b → c ≡ appended b (p + m) v k → Begun l p (x + v * 2 ^ m) (m + k) c
+  pub begun-more : (x v : ℕ) → v < 2 ^ k → Begun l p x m b → c ≡ appended b (p + m) v k
+      → Begun l p (x + v * 2 ^ m) (m + k) c
   begun-more x v small h e y j =
       let place : p + (m + k) ≡ p + m + k = omega arith in
       let high : y * 2 ^ (m + k) ≡ y * 2 ^ k * 2 ^ m =
       rw (add-comm m k, pow-add) (sym (mul-assoc y (2 ^ k) (2 ^ m))) in
-      let both : x + (v + y * 2 ^ k) * 2 ^ m ≡ x + v * 2 ^ m + y * 2 ^ (m + k) = omega (arith, add-mul v (y * 2 ^ k) (2 ^ m)) in
+      let both : x + (v + y * 2 ^ k) * 2 ^ m ≡ x + v * 2 ^ m + y * 2 ^ (m + k) =
+      omega (arith, add-mul v (y * 2 ^ k) (2 ^ m)) in
       ap₂ (λ (d : List ℕ) (i : ℕ). appended d i y j) e place
       ∙ appended-twice b (p + m) v k room small y j
       ∙ h (v + y * 2 ^ k) (k + j)
       ∙ ap₂ (appended l p) both (sym (add-assoc m k j))
 
   -- k entries more
-  pub begun-words : (f : ℕ → Bool) → Begun l p (word m f) m b → c ≡ appended b (p + m) (word k (λ i. f (m + i))) k → Begun l p (word (m + k) f) (m + k) c
-  begun-words f h e = rw (word-add m k f) (begun-more (word m f) (word k (λ i. f (m + i))) (word-lt k (λ i. f (m + i))) h e)
+  pub begun-words : (f : ℕ → Bool) → Begun l p (word m f) m b → c ≡ appended b (p + m) (word k (λ i. f (m + i))) k
+      → Begun l p (word (m + k) f) (m + k) c
+  begun-words f h e =
+      rw (word-add m k f) (begun-more (word m f) (word k (λ i. f (m + i))) (word-lt k (λ i. f (m + i))) h e)
 
 -- and the last
-pub ended-words : (l b c : List ℕ) (p m k : ℕ) (f : ℕ → Bool) → Begun l p (word m f) m b → c ≡ appended b (p + m) (word k (λ i. f (m + i))) k
+pub ended-words : (l b c : List ℕ) (p m k : ℕ) (f : ℕ → Bool) → Begun l p (word m f) m b
+    → c ≡ appended b (p + m) (word k (λ i. f (m + i))) k
     → c ≡ appended l p (word (m + k) f) (m + k)
 ended-words l b c p m k f h e =
     e ∙ h (word k (λ i. f (m + i))) k ∙ ap (λ (x : ℕ). appended l p x (m + k)) (sym (word-add m k f))

@@ -17,8 +17,10 @@ fn bits_at(bits: &[u8], i: usize) -> u64
 
 // The k bits in front of `bits`, all behind them being 0, put from bit p on: 56 at a time.
 pub fn append_bits(bits: &[u8], k: usize, bitmap: &mut [u8], p: usize)
-    requires { ⌜ (length (now bits) ≡ 64) × (0 < k) × (k ≤ 448) × (number (now bits) < 2 ^ k) × (p ≤ 32768) × (p + k ≤ 8 * length (now bitmap)) ⌝ }
-    ensures { λ _. ⌜ now (bitmap .exit) ≡ appended (now (bitmap .entry)) p (number (now (bits .entry))) k ⌝ }
+    requires { ⌜ (length (now bits) ≡ 64) × (0 < k) × (k ≤ 448) × (number (now bits) < 2 ^ k)
+        × (p ≤ 32768) × (p + k ≤ 8 * length (now bitmap)) ⌝ }
+    ensures { λ _. ⌜ now (bitmap .exit)
+        ≡ appended (now (bitmap .entry)) p (number (now (bits .entry))) k ⌝ }
 {
     let mut i: usize = 0;
     while 8 * i + 56 < k {

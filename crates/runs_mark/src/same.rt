@@ -1,4 +1,5 @@
-// Entries that are all selected, or none of them: a few at once, or the byte where they begin, whole bytes, the last byte.
+// Entries that are all selected, or none of them: a few at once, or the byte where they begin, whole bytes,
+// the last byte.
 ghost use mathlib.Core.Path.{_≡_};
 ghost use Prim.Native.Nat.{_+_, _*_, _≤_, _<_};
 ghost use lib.ListN.{length};
@@ -28,7 +29,8 @@ fn mark_few(bitmap: &mut [u8], p: usize, m: usize, selected: bool)
 // k whole bytes from byte a on.
 fn fill(bitmap: &mut [u8], a: usize, k: usize, selected: bool)
     requires { ⌜ a + k ≤ length (now bitmap) ⌝ }
-    ensures { λ _. ⌜ now (bitmap .exit) ≡ appended (now (bitmap .entry)) (8 * a) (word (8 * k) (λ _. selected)) (8 * k) ⌝ }
+    ensures { λ _. ⌜ now (bitmap .exit)
+        ≡ appended (now (bitmap .entry)) (8 * a) (word (8 * k) (λ _. selected)) (8 * k) ⌝ }
 {
     let byte = same_bits(8, selected) as u8;
     let mut i: usize = 0;
@@ -41,7 +43,8 @@ fn fill(bitmap: &mut [u8], a: usize, k: usize, selected: bool)
 // m entries from the first bit of byte a on.
 fn mark_bytes(bitmap: &mut [u8], a: usize, m: usize, selected: bool)
     requires { ⌜ (a ≤ 4096) × (m ≤ 16384) × (8 * a + m ≤ 8 * length (now bitmap)) ⌝ }
-    ensures { λ _. ⌜ now (bitmap .exit) ≡ appended (now (bitmap .entry)) (8 * a) (word m (λ _. selected)) m ⌝ }
+    ensures { λ _. ⌜ now (bitmap .exit)
+        ≡ appended (now (bitmap .entry)) (8 * a) (word m (λ _. selected)) m ⌝ }
 {
     let k = m / 8;
     fill(bitmap, a, k, selected);

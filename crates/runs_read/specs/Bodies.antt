@@ -15,20 +15,23 @@ abbrev pub byTests : Bool → Bool → Bool → Run → Run
 byTests past short small run = cond past (Refused 11) (cond short (Refused 5) (cond small run (Refused 8)))
 
 module _ {code : ℕ} where
-  pub faulty-body : (past short small : Bool) (run : Run) → code ≡ bodyFault past short small → (code ≡ 0 → ⊥) → Refused code ≡ byTests past short small run
+  pub faulty-body : (past short small : Bool) (run : Run) → code ≡ bodyFault past short small → (code ≡ 0 → ⊥)
+      → Refused code ≡ byTests past short small run
   faulty-body true short small run e some = ap Refused e
   faulty-body false true small run e some = ap Refused e
   faulty-body false false true run e some = absurd (some e)
   faulty-body false false false run e some = ap Refused e
 
-  pub good-body : (past short small : Bool) (run : Run) → code ≡ bodyFault past short small → code ≡ 0 → run ≡ byTests past short small run
+  pub good-body : (past short small : Bool) (run : Run) → code ≡ bodyFault past short small → code ≡ 0
+      → run ≡ byTests past short small run
   good-body true short small run e none = absurd (omega arith)
   good-body false true small run e none = absurd (omega arith)
   good-body false false true run e none = refl
   good-body false false false run e none = absurd (omega arith)
 
   -- no test failed
-  pub passed : (past short small : Bool) → code ≡ bodyFault past short small → code ≡ 0 → (past ≡ false) × (short ≡ false) × (small ≡ true)
+  pub passed : (past short small : Bool) → code ≡ bodyFault past short small → code ≡ 0
+      → (past ≡ false) × (short ≡ false) × (small ≡ true)
   passed true short small e none = absurd (omega arith)
   passed false true small e none = absurd (omega arith)
   passed false false true e none = (refl, refl, refl)

@@ -34,21 +34,25 @@ none-left z done = refl
 none-left z (next t s some run cut) = absurd (omega arith)
 
 -- a run that passes the entries left is the last
-both : (left own rest : ℕ) → own ≤ left + 7 → rest ≤ left - own + 7 → (left - own ≡ 0 → rest ≡ 0) → own + rest ≤ left + 7
+both : (left own rest : ℕ) → own ≤ left + 7 → rest ≤ left - own + 7 → (left - own ≡ 0 → rest ≡ 0)
+    → own + rest ≤ left + 7
 both left own rest within more none = go (ltb left own) refl
   where
     go : (past : Bool) → ltb left own ≡ past → own + rest ≤ left + 7
     go true e = let p = ltb-true left own e in omega (arith, none (omega arith))
     go false e = omega (arith, ltb-false left own e)
 
-pub covered : {w n : ℕ} {page : List ℕ} {ps : List Piece} → Cut w n page ps → (n ≤ length (cutEntries w ps)) × (length (cutEntries w ps) ≤ n + 7)
+pub covered : {w n : ℕ} {page : List ℕ} {ps : List Piece} → Cut w n page ps
+    → (n ≤ length (cutEntries w ps)) × (length (cutEntries w ps) ≤ n + 7)
 unfolding cutEntries
 covered done = (omega arith, omega arith)
 covered {w} (next {left} {p} {ps} t s some run cut) =
     let rest = covered cut in
     let size = length-append (pieceEntries w p) (cutEntries w ps) in
-    let own = length-piece w p in
-    (omega arith, omega (arith, both left (entries p) (length (cutEntries w ps)) (fits run) (rest .1) (λ z. none-left z cut)))
+    let own = length-piece w p in (
+      omega arith,
+      omega (arith, both left (entries p) (length (cutEntries w ps)) (fits run) (rest .1) (λ z. none-left z cut)),
+    )
 
 -- ---- each is below 2^w
 
@@ -64,9 +68,11 @@ small-replicate d (suc n) x h (suc k) = small-replicate d n x h k
 
 small-piece : {w left : ℕ} {t : List ℕ} {p : Piece} → OneRun w left t p → Small w (pieceEntries w p)
 small-piece {w} (repeats {count} t v d some within size small) = small-replicate w count _ small
-small-piece {w} (packs {groups} t body d some within size) = small-tabulate w (8 * groups) (entry lowFirst body w) (λ i. piece-lt 8 body (i * w) w)
+small-piece {w} (packs {groups} t body d some within size) =
+    small-tabulate w (8 * groups) (entry lowFirst body w) (λ i. piece-lt 8 body (i * w) w)
 
 pub cut-small : {w n : ℕ} {page : List ℕ} {ps : List Piece} → Cut w n page ps → Small w (cutEntries w ps)
 unfolding cutEntries
 cut-small {w} done = λ k. pow-pos w
-cut-small {w} (next {p = p} {ps = ps} t s some run cut) = small-append w (pieceEntries w p) (cutEntries w ps) (small-piece run) (cut-small cut)
+cut-small {w} (next {p = p} {ps = ps} t s some run cut) =
+    small-append w (pieceEntries w p) (cutEntries w ps) (small-piece run) (cut-small cut)

@@ -33,11 +33,13 @@ also-bad : {code : ℕ} (p : Piece) (s : Stream) → (s ≡ bad code → 0 < cod
 also-bad p (good ps) h e = let z : _≡_ {A = ℕ} 0 1 = cc in absurd (omega arith)
 also-bad p (bad c) h e = h e
 
-some-fault : (w turns left : ℕ) (page : List ℕ) (at : ℕ) {code : ℕ} → readAt w turns left page at ≡ bad code → 0 < code
+some-fault : (w turns left : ℕ) (page : List ℕ) (at : ℕ) {code : ℕ} → readAt w turns left page at ≡ bad code
+    → 0 < code
 some-fault w zero zero page at e = ended (ltb at (length page)) e
 some-fault w (suc turns) zero page at e = ended (ltb at (length page)) e
 some-fault w zero (suc left) page at {code} e = let c : 5 ≡ code = cc in omega arith
-some-fault w (suc turns) (suc left) page at {code} e = go (λ l next. some-fault w turns l page next) (shown w (suc left) page at) e
+some-fault w (suc turns) (suc left) page at {code} e =
+    go (λ l next. some-fault w turns l page next) (shown w (suc left) page at) e
   where
     go : ((l next : ℕ) → readAt w turns l page next ≡ bad code → 0 < code) → {r : Run} → Shown w (suc left) page at r
         → after w (suc left) page at (λ l next. readAt w turns l page next) r ≡ bad code → 0 < code
@@ -49,7 +51,8 @@ some-fault w (suc turns) (suc left) page at {code} e = go (λ l next. some-fault
 
 pub accepted : (w n : ℕ) (page : List ℕ) → (streamFault (read w n page) ≡ 0) ↔ ((ps : List Piece) × Cut w n page ps)
 unfolding read
-accepted w n page = (λ e. go (read w n page) refl e, λ found. ap streamFault (exact w n page (found .0) .1 (found .1)))
+accepted w n page =
+    (λ e. go (read w n page) refl e, λ found. ap streamFault (exact w n page (found .0) .1 (found .1)))
   where
     go : (s : Stream) → read w n page ≡ s → streamFault s ≡ 0 → (ps : List Piece) × Cut w n page ps
     go (good ps) e z = (ps, exact w n page ps .0 e)

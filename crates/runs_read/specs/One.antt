@@ -20,7 +20,8 @@ module _ (w n covered : ℕ) (page : List ℕ) (at : ℕ) where
   unfolding oneAt limitFault _then_
   one-limited some = go (ltb 32 w) (ltb 16384 n) _ some
     where
-      go : (wide many : Bool) (r : Run) → ((faulty wide 1 then faulty many 2) ≡ 0 → ⊥) → cond wide (Refused 1) (cond many (Refused 2) r) ≡ Refused (faulty wide 1 then faulty many 2)
+      go : (wide many : Bool) (r : Run) → ((faulty wide 1 then faulty many 2) ≡ 0 → ⊥)
+          → cond wide (Refused 1) (cond many (Refused 2) r) ≡ Refused (faulty wide 1 then faulty many 2)
       go true many r some = refl
       go false true r some = refl
       go false false r some = absurd (some refl)
@@ -28,15 +29,20 @@ module _ (w n covered : ℕ) (page : List ℕ) (at : ℕ) where
   module _ (limits : limitFault w n ≡ 0) where
     pub one-past : length page < at → oneAt w n covered page at ≡ Refused 5
     unfolding oneAt
-    one-past past = let l = within-limits w n limits in rw (le-ltb 32 w (l .0), le-ltb 16384 n (l .1), lt-ltb _ _ past)
+    one-past past =
+        let l = within-limits w n limits in rw (le-ltb 32 w (l .0), le-ltb 16384 n (l .1), lt-ltb _ _ past)
 
     pub one-covered : at ≤ length page → n ≤ covered → oneAt w n covered page at ≡ Refused 11
     unfolding oneAt
-    one-covered on all = let l = within-limits w n limits in rw (le-ltb 32 w (l .0), le-ltb 16384 n (l .1), le-ltb _ _ on, le-leb _ _ all)
+    one-covered on all =
+        let l = within-limits w n limits in
+        rw (le-ltb 32 w (l .0), le-ltb 16384 n (l .1), le-ltb _ _ on, le-leb _ _ all)
 
     pub one-read : at ≤ length page → covered < n → oneAt w n covered page at ≡ runAt w (n - covered) page at
     unfolding oneAt
-    one-read on more = let l = within-limits w n limits in rw (le-ltb 32 w (l .0), le-ltb 16384 n (l .1), le-ltb _ _ on, lt-leb _ _ more)
+    one-read on more =
+        let l = within-limits w n limits in
+        rw (le-ltb 32 w (l .0), le-ltb 16384 n (l .1), le-ltb _ _ on, lt-leb _ _ more)
 
   -- ---- for whoever reads on
 
@@ -45,7 +51,8 @@ module _ (w n covered : ℕ) (page : List ℕ) (at : ℕ) where
   other false unless e = (refl, e)
 
   -- what was not refused was read, with entries still wanted
-  pub one-ran : {r : Run} → ((code : ℕ) → Refused code ≡ r → ⊥) → oneAt w n covered page at ≡ r → (runAt w (n - covered) page at ≡ r) × (n ≤ 16384) × (covered < n)
+  pub one-ran : {r : Run} → ((code : ℕ) → Refused code ≡ r → ⊥) → oneAt w n covered page at ≡ r
+      → (runAt w (n - covered) page at ≡ r) × (n ≤ 16384) × (covered < n)
   unfolding oneAt
   one-ran unless e =
       let a = other (ltb 32 w) (unless 1) e in

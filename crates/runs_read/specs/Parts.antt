@@ -1,4 +1,5 @@
--- The part of a page from a place on: its length, and the number that its first bytes make; the bits of a packed run's first entries.
+-- The part of a page from a place on: its length, and the number that its first bytes make; the bits of a packed
+-- run's first entries.
 use mathlib.Core.Path.{_≡_, refl, sym, ap, _∙_}
 use mathlib.Core.Bool.{Bool, true, false}
 use mathlib.Core.List.{List}
@@ -25,7 +26,13 @@ first-bytes l k m bytes = go (leb k (length l)) refl
     go true e =
         let size : length (take k l) ≡ k = length-take-le k l (leb-true k (length l) e) in
         let small : number (take k l) < 2 ^ (8 * k) = rw size at (joined-lt 8 (take k l) (small-take 8 k l bytes)) in
-        rw (take-add k m l, number-append (take k l) (take m (drop k l)), size, pow-256 k, add-comm (number (take k l)))
+        rw (
+          take-add k m l,
+          number-append (take k l) (take m (drop k l)),
+          size,
+          pow-256 k,
+          add-comm (number (take k l)),
+        )
         (low (number (take m (drop k l))) (8 * k) small)
     go false e =
         let few : length l < k = leb-false k (length l) e in

@@ -9,7 +9,8 @@ use Rattle.rules.specs.Runs.{Piece, atEnd, after, readAt, runAt}
 use Rattle.rules.specs.Runs.Stream.{good, bad}
 
 pub turn : (w turns left : ℕ) (page : List ℕ) (at : ℕ) → 0 < left
-    → readAt w (suc turns) left page at ≡ after w left page at (λ l next. readAt w turns l page next) (runAt w left page at)
+    → readAt w (suc turns) left page at
+    ≡ after w left page at (λ l next. readAt w turns l page next) (runAt w left page at)
 turn w turns zero page at some = absurd (omega arith)
 turn w turns (suc left) page at some = refl
 

@@ -19,9 +19,11 @@ use Rattle.words.specs.Tests.{either}
 -- a header h was read that ends at p, and what follows it passed every test
 pub data Shown (w left : ℕ) (page : List ℕ) (at : ℕ) : Run → Type 0 where
   refuses : (code : ℕ) → 0 < code → Shown w left page at (Refused code)
-  repeats : (h p : ℕ) → numberAt 32 page at ≡ Read h p → h ≡ 2 * (h / 2) → 0 < h / 2 → h / 2 ≤ left → ceil w 8 ≤ length page - p → number (take (ceil w 8) (drop p page)) < 2 ^ w
+  repeats : (h p : ℕ) → numberAt 32 page at ≡ Read h p → h ≡ 2 * (h / 2) → 0 < h / 2 → h / 2 ≤ left
+      → ceil w 8 ≤ length page - p → number (take (ceil w 8) (drop p page)) < 2 ^ w
       → Shown w left page at (Repeated (h / 2) (number (take (ceil w 8) (drop p page))) (p + ceil w 8))
-  packs : (h p : ℕ) → numberAt 32 page at ≡ Read h p → h ≡ 2 * (h / 2) + 1 → 0 < h / 2 → 8 * (h / 2) ≤ left + 7 → w * (h / 2) ≤ length page - p
+  packs : (h p : ℕ) → numberAt 32 page at ≡ Read h p → h ≡ 2 * (h / 2) + 1 → 0 < h / 2 → 8 * (h / 2) ≤ left + 7
+      → w * (h / 2) ≤ length page - p
       → Shown w left page at (Packed (h / 2) p (p + w * (h / 2)))
 
 module _ (w left : ℕ) (page : List ℕ) (at : ℕ) where
@@ -39,11 +41,13 @@ module _ (w left : ℕ) (page : List ℕ) (at : ℕ) where
           (λ even. either S (ltb left (h / 2)) (λ _. refuses 11 (omega arith))
           (λ fits. either S (ltb (length page - p) (ceil w 8)) (λ _. refuses 5 (omega arith))
           (λ there. either S (ltb (number (take (ceil w 8) (drop p page))) (2 ^ w))
-          (λ small. repeats h p e (omega (arith, eqb-true (h % 2) 0 even)) (omega (arith, eqb-false (h / 2) 0 some)) (ltb-false _ _ fits) (ltb-false _ _ there) (ltb-true _ _ small))
+          (λ small. repeats h p e (omega (arith, eqb-true (h % 2) 0 even)) (omega (arith, eqb-false (h / 2) 0 some))
+          (ltb-false _ _ fits) (ltb-false _ _ there) (ltb-true _ _ small))
           (λ _. refuses 8 (omega arith)))))
           (λ odd. either S (ltb (left + 7) (8 * (h / 2))) (λ _. refuses 11 (omega arith))
           (λ fits. either S (ltb (length page - p) (w * (h / 2))) (λ _. refuses 5 (omega arith))
-          (λ there. packs h p e (omega (arith, eqb-false (h % 2) 0 odd)) (omega (arith, eqb-false (h / 2) 0 some)) (ltb-false _ _ fits) (ltb-false _ _ there)))))
+          (λ there. packs h p e (omega (arith, eqb-false (h % 2) 0 odd)) (omega (arith, eqb-false (h / 2) 0 some))
+          (ltb-false _ _ fits) (ltb-false _ _ there)))))
 
   -- ---- for whoever reads on
 
@@ -51,7 +55,8 @@ module _ (w left : ℕ) (page : List ℕ) (at : ℕ) where
       → (0 < count) × (count ≤ left) × (value < 2 ^ w) × (at < next) × (next ≤ length page)
   ran-repeated e = go (subst (Shown w left page at) e shown)
     where
-      go : {count value next : ℕ} → Shown w left page at (Repeated count value next) → (0 < count) × (count ≤ left) × (value < 2 ^ w) × (at < next) × (next ≤ length page)
+      go : {count value next : ℕ} → Shown w left page at (Repeated count value next)
+          → (0 < count) × (count ≤ left) × (value < 2 ^ w) × (at < next) × (next ≤ length page)
       go (repeats h p q even some fits there small) =
           let n = next-within 32 page at h p q in
           (some, fits, small, omega arith, omega arith)
@@ -60,7 +65,9 @@ module _ (w left : ℕ) (page : List ℕ) (at : ℕ) where
       → (0 < groups) × (8 * groups ≤ left + 7) × (next ≡ start + w * groups) × (at < start) × (next ≤ length page)
   ran-packed e = go (subst (Shown w left page at) e shown)
     where
-      go : {groups start next : ℕ} → Shown w left page at (Packed groups start next) → (0 < groups) × (8 * groups ≤ left + 7) × (next ≡ start + w * groups) × (at < start) × (next ≤ length page)
+      go : {groups start next : ℕ} → Shown w left page at (Packed groups start next)
+          → (0 < groups) × (8 * groups ≤ left + 7) × (next ≡ start + w * groups) × (at < start)
+          × (next ≤ length page)
       go (packs h p q odd some fits there) =
           let n = next-within 32 page at h p q in
           (some, fits, refl, n .2, omega arith)

@@ -1,13 +1,23 @@
-// One run asked for by itself, as numbers: a caller in C gets no part of its page back, but the part's place.
+// One run asked for by itself, as numbers: a caller in C gets no part of its page back, but the part's
+// place.
 ghost use mathlib.Core.Path.{_≡_};
 ghost use Rattle.rules.specs.Runs.{oneAnswer};
-use crate::one::one_at;
+use crate::reader::run_from;
 use rules::Run;
 use rules::RunAnswer;
 
 // A run that hands no bytes back: a refused or a repeated one.
 fn without_bytes(code: u32, length: usize, value: u32, next: usize) -> RunAnswer
-    ensures { λ r. ⌜ r ≡ record { code = code; kind = 0; length = length; value = value; next = next; «body_at» = 0; «body_len» = 0 } ⌝ }
+    ensures { λ r. ⌜ r
+        ≡ record {
+          code = code;
+          kind = 0;
+          length = length;
+          value = value;
+          next = next;
+          «body_at» = 0;
+          «body_len» = 0;
+        } ⌝ }
 {
     RunAnswer {
         code: code,
@@ -24,7 +34,7 @@ fn without_bytes(code: u32, length: usize, value: u32, next: usize) -> RunAnswer
 pub fn one_answer(page: &[u8], at: usize, w: u32, n: usize, covered: usize) -> RunAnswer
     ensures { λ r. ⌜ r ≡ oneAnswer w n covered (now (page .entry)) at ⌝ }
 {
-    let run = one_at(page, at, w, n, covered);
+    let run = run_from(page, at, w, n, covered);
     match run {
         Run::Refused(code) => without_bytes(code, 0, 0, 0),
         Run::Repeated { count, value, next } => without_bytes(0, count, value, next),

@@ -5,7 +5,8 @@ ghost use Rattle.rules.specs.Runs.Handed.{handed};
 use crate::one::one_at;
 use rules::Run;
 
-// Beside the part stand the code, the kind (1 for a packed run), the length in entries, the repeated value and the next place.
+// Beside the part stand the code, the kind (1 for a packed run), the length in entries, the repeated value
+// and the next place.
 pub fn one_run<'a, 'b>(
     page: &'a [u8],
     at: usize,

@@ -1,4 +1,5 @@
-// Plain runs, as short ones are: a header of one byte, and four bytes or more behind it. They are read here, in so few steps that a loop over runs holds a copy; any other run is left to `reading`.
+// Plain runs, as short ones are: a header of one byte, and four bytes or more behind it. They are read
+// here, in so few steps that a loop over runs holds a copy; any other run is left to `reading`.
 ghost use mathlib.Core.Path.{_≡_};
 ghost use Prim.Native.Nat.{_+_, _≤_, _<_};
 ghost use lib.ListN.{length, getD};
@@ -9,7 +10,8 @@ use words::loads::load4;
 
 // The header of the plain run at a place, or 0, the header of none.
 fn header_at(page: &[u8], at: usize) -> usize
-    ensures { λ r. ⌜ (0 < r → (at + 5 ≤ length (now (page .entry))) × (r < 128) × (r ≡ getD (now (page .entry)) at 0)) ⌝ }
+    ensures { λ r. ⌜ (0 < r
+        → (at + 5 ≤ length (now (page .entry))) × (r < 128) × (r ≡ getD (now (page .entry)) at 0)) ⌝ }
 {
     if page.len() <= 4 {
         return 0;

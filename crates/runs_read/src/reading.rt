@@ -42,7 +42,8 @@ fn repeated_fault(len: usize, w: usize, left: usize, count: usize, value: u64) -
 // The repeated run whose value begins the part; `at` is the part's place on its page.
 fn repeated_at(part: &[u8], at: usize, w: usize, left: usize, count: usize) -> Run
     requires { ⌜ (w ≤ 32) × (at + length (now part) < 2 ^ 64) ⌝ }
-    ensures { λ r. ⌜ ((page : List ℕ) → drop at page ≡ now (part .entry) → r ≡ repeatedAt w left page count at) ⌝ }
+    ensures { λ r. ⌜ ((page : List ℕ) → drop at page ≡ now (part .entry)
+        → r ≡ repeatedAt w left page count at) ⌝ }
 {
     let k = (w + 7) / 8;
     let value = value_of(part, k);
@@ -74,7 +75,8 @@ fn packed_fault(len: usize, w: usize, left: usize, groups: usize) -> u32
 // The packed run whose groups begin the part; `at` is the part's place on its page.
 fn packed_at(part: &[u8], at: usize, w: usize, left: usize, groups: usize) -> Run
     requires { ⌜ (w ≤ 32) × (left ≤ 16384) × (at + length (now part) < 2 ^ 64) ⌝ }
-    ensures { λ r. ⌜ ((page : List ℕ) → drop at page ≡ now (part .entry) → r ≡ packedAt w left page groups at) ⌝ }
+    ensures { λ r. ⌜ ((page : List ℕ) → drop at page ≡ now (part .entry)
+        → r ≡ packedAt w left page groups at) ⌝ }
 {
     let code = packed_fault(part.len(), w, left, groups);
     if code != 0 {

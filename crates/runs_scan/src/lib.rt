@@ -1,3 +1,2 @@
 // Run streams: scan.
-pub mod judging;
 pub mod scanning;

@@ -21,11 +21,13 @@ module _ {O : Type 0} (n : ℕ) (write : ℕ → ℕ → (ℕ → ℕ) → O →
   pub begins : (out : O) → x ≡ pass (written n write w) w n page out → onward 0 0 out
   begins out e =
       let all : n ≡ n - 0 = omega arith in
-      subst₂ (λ (y : O) (left : ℕ). Comes (writing (written n write w)) y w left page 0 (0, out)) (sym e) all (pass-comes (written n write w) w n page out)
+      subst₂ (λ (y : O) (left : ℕ). Comes (writing (written n write w)) y w left page 0 (0, out)) (sym e) all
+      (pass-comes (written n write w) w n page out)
 
   module _ {at i : ℕ} {out : O} (some : i < n) (comes : onward at i out) where
     -- a repeated run lies below n
-    pub on-repeated : {count value next : ℕ} {new : O} → runAt w (n - i) page at ≡ Repeated count value next → new ≡ write i count (λ _. value) out → onward next (i + count) new
+    pub on-repeated : {count value next : ℕ} {new : O} → runAt w (n - i) page at ≡ Repeated count value next
+        → new ≡ write i count (λ _. value) out → onward next (i + count) new
     on-repeated {count} {value} {next} {new} q e =
         let fits = ran-repeated w (n - i) page at q in
         let few : min count (n - i) ≡ count = omega arith in
@@ -36,10 +38,12 @@ module _ {O : Type 0} (n : ℕ) (write : ℕ → ℕ → (ℕ → ℕ) → O →
 
     -- a packed run may reach past it
     pub on-packed : {groups start next : ℕ} {new : O} → runAt w (n - i) page at ≡ Packed groups start next
-        → new ≡ write i (min (8 * groups) (n - i)) (entry lowFirst (take (w * groups) (drop start page)) w) out → onward next (i + 8 * groups) new
+        → new ≡ write i (min (8 * groups) (n - i)) (entry lowFirst (take (w * groups) (drop start page)) w) out
+        → onward next (i + 8 * groups) new
     on-packed {groups} {start} {next} {new} q e =
         let rest : n - i - 8 * groups ≡ n - (i + 8 * groups) = omega arith in
-        subst₂ (λ (left : ℕ) (o : O). Comes (writing (written n write w)) x w left page next (i + 8 * groups, o)) rest (sym e)
+        subst₂ (λ (left : ℕ) (o : O). Comes (writing (written n write w)) x w left page next (i + 8 * groups, o))
+        rest (sym e)
         (Walks.on-packed (writing (written n write w)) (omega arith) comes q)
 
     -- a fault ends the pass where it is

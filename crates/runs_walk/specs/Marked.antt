@@ -26,7 +26,8 @@ marks test i m value out = appended out i (word m (λ k. test (value k))) m
 unfoldable pub marked : (ℕ → Bool) → ℕ → ℕ → List ℕ → List ℕ → List ℕ
 marked test w n page out = pass (written n (marks test) w) w n page out
 
-pub marked-pass : (test : ℕ → Bool) (w n : ℕ) (page out : List ℕ) → marked test w n page out ≡ pass (written n (marks test) w) w n page out
+pub marked-pass : (test : ℕ → Bool) (w n : ℕ) (page out : List ℕ)
+    → marked test w n page out ≡ pass (written n (marks test) w) w n page out
 unfolding marked
 marked-pass test w n page out = refl
 
@@ -36,12 +37,14 @@ unfolding marked
 marked-cut test w n page ps out cut =
     pass-cut (written n (marks test) w) w n page ps out cut
     ∙ ap (putAll (written n (marks test) w) 0 ps) none
-    ∙ covers n (marks test) w holding grows n 0 page ps (λ i. getD (cutEntries w ps) i 0) cut (omega arith) (λ k h. ap (λ (i : ℕ). getD (cutEntries w ps) i 0) (omega arith))
+    ∙ covers n (marks test) w holding grows n 0 page ps (λ i. getD (cutEntries w ps) i 0) cut (omega arith)
+    (λ k h. ap (λ (i : ℕ). getD (cutEntries w ps) i 0) (omega arith))
   where
     holding : ℕ → (ℕ → ℕ) → List ℕ
     holding i f = put out 0 (bitmap i (λ k. test (f k)))
 
-    grows : (i m : ℕ) (f value : ℕ → ℕ) → i + m ≤ n → ((k : ℕ) → k < m → value k ≡ f (i + k)) → marks test i m value (holding i f) ≡ holding (i + m) f
+    grows : (i m : ℕ) (f value : ℕ → ℕ) → i + m ≤ n → ((k : ℕ) → k < m → value k ≡ f (i + k))
+        → marks test i m value (holding i f) ≡ holding (i + m) f
     grows i m f value fits e =
         ap (λ (x : ℕ). appended (put out 0 (bitmap i (λ k. test (f k)))) i x m) (word-ext m (λ k h. ap test (e k h)))
         ∙ appended-bitmap out i m (λ k. test (f k))
@@ -55,5 +58,6 @@ pub marked-body : (test : ℕ → Bool) (page out new : List ℕ) (w start group
     → new ≡ marks test i (min (8 * groups) left) (entry lowFirst (take (w * groups) (drop start page)) w) out
 marked-body test page out new w start groups left i m few e =
     e
-    ∙ ap (λ (x : ℕ). appended out i x m) (sym (part-word page start (w * groups) w m test (body-fits w groups m (omega arith))))
+    ∙ ap (λ (x : ℕ). appended out i x m)
+    (sym (part-word page start (w * groups) w m test (body-fits w groups m (omega arith))))
     ∙ ap (λ (k : ℕ). marks test i k (entry lowFirst (take (w * groups) (drop start page)) w) out) few

@@ -25,7 +25,8 @@ module _ {A : Type 0} (value : ℕ → A) where
   unfoldable pub placed : ℕ → ℕ → List ℕ → List A → List A
   placed w n page out = pass (written n places w) w n page out
 
-  pub placed-pass : (w n : ℕ) (page : List ℕ) (out : List A) → placed w n page out ≡ pass (written n places w) w n page out
+  pub placed-pass : (w n : ℕ) (page : List ℕ) (out : List A)
+      → placed w n page out ≡ pass (written n places w) w n page out
   unfolding placed
   placed-pass w n page out = refl
 
@@ -35,14 +36,17 @@ module _ {A : Type 0} (value : ℕ → A) where
   placed-cut w n page ps out room cut =
       pass-cut (written n places w) w n page ps out cut
       ∙ ap (putAll (written n places w) 0 ps) (tabulate-none out 0 (λ i. value (getD (cutEntries w ps) i 0)))
-      ∙ covers n places w holding grows n 0 page ps (λ i. getD (cutEntries w ps) i 0) cut (omega arith) (λ k h. ap (λ (i : ℕ). getD (cutEntries w ps) i 0) (omega arith))
+      ∙ covers n places w holding grows n 0 page ps (λ i. getD (cutEntries w ps) i 0) cut (omega arith)
+      (λ k h. ap (λ (i : ℕ). getD (cutEntries w ps) i 0) (omega arith))
     where
       holding : ℕ → (ℕ → ℕ) → List A
       holding i f = put out 0 (tabulate i (λ k. value (f k)))
 
-      grows : (i m : ℕ) (f entry : ℕ → ℕ) → i + m ≤ n → ((k : ℕ) → k < m → entry k ≡ f (i + k)) → places i m entry (holding i f) ≡ holding (i + m) f
+      grows : (i m : ℕ) (f entry : ℕ → ℕ) → i + m ≤ n → ((k : ℕ) → k < m → entry k ≡ f (i + k))
+          → places i m entry (holding i f) ≡ holding (i + m) f
       grows i m f entry fits e =
-          ap (put (holding i f) i) (tabulate-ext m (λ k. value (entry k)) (λ k. value (f (i + k))) (λ k h. ap value (e k h)))
+          ap (put (holding i f) i)
+          (tabulate-ext m (λ k. value (entry k)) (λ k. value (f (i + k))) (λ k h. ap value (e k h)))
           ∙ put-tabulate-add out i m (λ k. value (f k)) (omega arith)
 
 -- ---- a packed run
@@ -50,9 +54,11 @@ module _ {A : Type 0} (value : ℕ → A) where
 module _ {A : Type 0} (value : ℕ → A) where
   -- entries that lie in n bytes from byte a on
   pub part-entries : (page : List ℕ) (a n w m : ℕ) → m * w ≤ 8 * n
-      → tabulate m (λ k. value (entry lowFirst (take n (drop a page)) w k)) ≡ tabulate m (λ k. value (field lowFirst page (8 * a + k * w) w))
+      → tabulate m (λ k. value (entry lowFirst (take n (drop a page)) w k))
+      ≡ tabulate m (λ k. value (field lowFirst page (8 * a + k * w) w))
   part-entries page a n w m h =
-      tabulate-ext m (λ k. value (entry lowFirst (take n (drop a page)) w k)) (λ k. value (field lowFirst page (8 * a + k * w) w))
+      tabulate-ext m (λ k. value (entry lowFirst (take n (drop a page)) w k))
+      (λ k. value (field lowFirst page (8 * a + k * w) w))
       (λ k l. ap value (field-window page a n (k * w) w (omega (arith, place-within w k m l))))
 
   -- its entries, as they lie in the page

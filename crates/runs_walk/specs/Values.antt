@@ -43,12 +43,15 @@ marked-read test w n page out none =
     ∙ ap (λ s. put out 0 (bitmap n (λ i. test (streamEntry w s i)))) (sym (exact w n page (cut .0) .1 (cut .1)))
 
 pub marked-banded : (band : Band) (w n : ℕ) (page out : List ℕ) → w ≤ 32 → streamFault (read w n page) ≡ 0
-    → marked (ranged (rangeOf band)) w n page out ≡ put out 0 (bitmap n (λ i. banded band (pos (streamEntry w (read w n page) i))))
+    → marked (ranged (rangeOf band)) w n page out
+    ≡ put out 0 (bitmap n (λ i. banded band (pos (streamEntry w (read w n page) i))))
 marked-banded band w n page out h none =
     marked-read (ranged (rangeOf band)) w n page out none
-    ∙ ap (put out 0) (bitmap-ext n (λ i l. ranged-band band (streamEntry w (read w n page) i) (entry-small w n page i h)))
+    ∙ ap (put out 0)
+    (bitmap-ext n (λ i l. ranged-band band (streamEntry w (read w n page) i) (entry-small w n page i h)))
 
-pub placed-read : {A : Type 0} (value : ℕ → A) (w n : ℕ) (page : List ℕ) (out : List A) → n ≤ length out → streamFault (read w n page) ≡ 0
+pub placed-read : {A : Type 0} (value : ℕ → A) (w n : ℕ) (page : List ℕ) (out : List A) → n ≤ length out
+    → streamFault (read w n page) ≡ 0
     → placed value w n page out ≡ put out 0 (tabulate n (λ i. value (streamEntry w (read w n page) i)))
 placed-read value w n page out room none =
     let cut = accepted w n page .0 none in

@@ -1,2 +1,3 @@
-// A run stream walked from run to run: each marks its bits. What a walk leaves, also in places, stands in specs/.
+// A run stream walked from run to run: each marks its bits. What a walk leaves, also in places, stands in
+// specs/.
 pub mod marking;

@@ -1,11 +1,11 @@
 // Each run of a stream sets its own bits.
 ghost use mathlib.Core.Path.{_≡_};
-ghost use Prim.Native.Nat.{_+_, _*_, _%_, _≤_, _<_};
+ghost use Prim.Native.Nat.{_+_, _*_, _≤_, _<_};
 ghost use lib.ListN.{length};
 ghost use Rattle.rules.specs.Bits.{ceil, word, field};
 ghost use Rattle.rules.specs.Bits.Order.{lowFirst};
 ghost use Rattle.words.specs.Appended.{appended};
-ghost use Rattle.compare.specs.Range.{ranged};
+ghost use Rattle.compare.specs.Range.{ranged, UsableRange};
 ghost use Rattle.runs_walk.specs.Marked.{marked};
 use compare::ranges::Range;
 use compare::ranges::passes;
@@ -15,7 +15,8 @@ use runs_mark::same::mark_same;
 use runs_read::plain::run_at;
 use words::counts::min;
 
-// The first m entries of the packed run whose body begins at byte `start`, from bit p on; what follows them on the page is lent with them.
+// The first m entries of the packed run whose body begins at byte `start`, from bit p on; what follows them
+// on the page is lent with them.
 fn mark_body(
     page: &[u8],
     start: usize,
@@ -25,8 +26,12 @@ fn mark_body(
     bitmap: &mut [u8],
     p: usize,
 )
-    requires { ⌜ (w ≤ 32) × (0 < m) × (m ≤ 16384) × (p ≤ 16384) × (start + ceil (m * w) 8 ≤ length (now page)) × (p + m ≤ 8 * length (now bitmap)) × (range .low + range .span < 4294967296) × (range .flip % 255 ≡ 0) ⌝ }
-    ensures { λ _. ⌜ now (bitmap .exit) ≡ appended (now (bitmap .entry)) p (word m (λ k. ranged range (field lowFirst (now (page .entry)) (8 * start + k * w) w))) m ⌝ }
+    requires { ⌜ (w ≤ 32) × (0 < m) × (m ≤ 16384) × (p ≤ 16384)
+        × (start + ceil (m * w) 8 ≤ length (now page)) × (p + m ≤ 8 * length (now bitmap))
+        × UsableRange range ⌝ }
+    ensures { λ _. ⌜ now (bitmap .exit)
+        ≡ appended (now (bitmap .entry)) p
+        (word m (λ k. ranged range (field lowFirst (now (page .entry)) (8 * start + k * w) w))) m ⌝ }
 {
     let end = min(start + (m * w + 7) / 8 + 8, page.len());
     mark_packed(&page[start..end], w, m, range, bitmap, p);
@@ -34,8 +39,9 @@ fn mark_body(
 
 // All runs, in turn; a fault ends the pass.
 pub fn mark_runs(page: &[u8], w: usize, n: usize, range: Range, bitmap: &mut [u8])
-    requires { ⌜ (w ≤ 32) × (n ≤ 16384) × (ceil n 8 ≤ length (now bitmap)) × (range .low + range .span < 4294967296) × (range .flip % 255 ≡ 0) ⌝ }
-    ensures { λ _. ⌜ now (bitmap .exit) ≡ marked (ranged range) w n (now (page .entry)) (now (bitmap .entry)) ⌝ }
+    requires { ⌜ (w ≤ 32) × (n ≤ 16384) × (ceil n 8 ≤ length (now bitmap)) × UsableRange range ⌝ }
+    ensures { λ _. ⌜ now (bitmap .exit)
+        ≡ marked (ranged range) w n (now (page .entry)) (now (bitmap .entry)) ⌝ }
 {
     let mut at: usize = 0;
     let mut i: usize = 0;

@@ -1,4 +1,5 @@
--- How the writer cuts a list: each run takes an entry or more, none reaches past the last group, and the stream goes run by run.
+-- How the writer cuts a list: each run takes an entry or more, none reaches past the last group, and the stream
+-- goes run by run.
 use mathlib.Core.Path.{_≡_, refl, ap}
 use mathlib.Core.Bool.{Bool, true, false, cond}
 use mathlib.Core.List.{List, [], _∷_, _++_}
@@ -27,7 +28,8 @@ unfolding equalTo
 equal-each x [] i h = absurd (omega arith)
 equal-each x (y ∷ s) i h = go (equal-each x s) (eqb y x) refl i h
   where
-    go : ((i : ℕ) → i < equalTo x s → getD s i 0 ≡ x) → (t : Bool) → eqb y x ≡ t → (i : ℕ) → i < cond t (suc (equalTo x s)) 0 → getD (y ∷ s) i 0 ≡ x
+    go : ((i : ℕ) → i < equalTo x s → getD s i 0 ≡ x) → (t : Bool) → eqb y x ≡ t → (i : ℕ)
+        → i < cond t (suc (equalTo x s)) 0 → getD (y ∷ s) i 0 ≡ x
     go later true e zero l = eqb-true y x e
     go later true e (suc i) l = later i (omega arith)
     go later false e i l = absurd (omega arith)
@@ -52,7 +54,8 @@ groups-le zero s = omega arith
 groups-le (suc more) [] = omega arith
 groups-le (suc more) (x ∷ s) = go (leb 8 (stretch (x ∷ s))) (groups-le more (drop 8 (x ∷ s)))
   where
-    go : (t : Bool) → groupsOf more (drop 8 (x ∷ s)) ≤ more → cond t 0 (suc (groupsOf more (drop 8 (x ∷ s)))) ≤ suc more
+    go : (t : Bool) → groupsOf more (drop 8 (x ∷ s)) ≤ more
+        → cond t 0 (suc (groupsOf more (drop 8 (x ∷ s)))) ≤ suc more
     go true h = omega arith
     go false h = omega arith
 
@@ -84,7 +87,8 @@ unfolding nextRun
 next-packs s h = rw (lt-leb 8 (stretch s) h)
 
 -- what holds of both kinds holds of the next run
-pub by-kind : (s : List ℕ) (P : Next → Type 0) → (8 ≤ stretch s → P (Repeats (stretch s))) → (stretch s < 8 → P (Packs (groupsOf 63 s))) → P (nextRun s)
+pub by-kind : (s : List ℕ) (P : Next → Type 0) → (8 ≤ stretch s → P (Repeats (stretch s)))
+    → (stretch s < 8 → P (Packs (groupsOf 63 s))) → P (nextRun s)
 unfolding nextRun
 by-kind s P repeats packs = go (leb 8 (stretch s)) refl
   where
@@ -97,21 +101,25 @@ taken-some s h =
     by-kind s (λ next. 0 < taken next) (λ l. omega arith) (λ l. omega (arith, groups-some 62 s h l))
 
 pub taken-within : (s : List ℕ) → taken (nextRun s) ≤ length s + 7
-taken-within s = by-kind s (λ next. taken next ≤ length s + 7) (λ l. omega (arith, stretch-le s)) (λ l. groups-within 63 s)
+taken-within s =
+    by-kind s (λ next. taken next ≤ length s + 7) (λ l. omega (arith, stretch-le s)) (λ l. groups-within 63 s)
 
 -- fewer entries are left behind it
 pub fewer-left : (s : List ℕ) → 0 < length s → length (drop (taken (nextRun s)) s) < length s
 fewer-left s h = omega (arith, length-drop (taken (nextRun s)) s, taken-some s h)
 
 -- what holds of no entries, and of a list if it holds of what its first run leaves, holds of every list
-pub by-runs : (P : List ℕ → Type 0) → P [] → ((s : List ℕ) → 0 < length s → P (drop (taken (nextRun s)) s) → P s) → (s : List ℕ) → P s
+pub by-runs : (P : List ℕ → Type 0) → P [] → ((s : List ℕ) → 0 < length s → P (drop (taken (nextRun s)) s) → P s)
+    → (s : List ℕ) → P s
 by-runs P none next s = go (length s) s (omega arith)
   where
     go : (k : ℕ) (s : List ℕ) → length s ≤ k → P s
     go zero [] h = none
     go zero (x ∷ s) h = absurd (omega arith)
     go (suc k) [] h = none
-    go (suc k) (x ∷ s) h = next (x ∷ s) (omega arith) (go k (drop (taken (nextRun (x ∷ s))) (x ∷ s)) (omega (arith, fewer-left (x ∷ s) (omega arith))))
+    go (suc k) (x ∷ s) h =
+        next (x ∷ s) (omega arith)
+        (go k (drop (taken (nextRun (x ∷ s))) (x ∷ s)) (omega (arith, fewer-left (x ∷ s) (omega arith))))
 
 -- ---- the stream
 
@@ -126,14 +134,16 @@ turns-enough w (suc k) (suc j) [] h l = refl
 turns-enough w (suc k) (suc j) (x ∷ s) h l =
     let next = nextRun (x ∷ s) in
     let less : length (drop (taken next) (x ∷ s)) ≤ length s = omega (arith, fewer-left (x ∷ s) (omega arith)) in
-    ap (λ (l : List ℕ). runBytes w (x ∷ s) next ++ l) (turns-enough w k j (drop (taken next) (x ∷ s)) (omega arith) (omega arith))
+    ap (λ (l : List ℕ). runBytes w (x ∷ s) next ++ l)
+    (turns-enough w k j (drop (taken next) (x ∷ s)) (omega arith) (omega arith))
 
 pub stream-none : (w : ℕ) → stream w [] ≡ []
 unfolding stream
 stream-none w = refl
 
 -- the bytes of the next run, and behind them those of the entries that it leaves
-pub stream-turn : (w : ℕ) (s : List ℕ) → 0 < length s → stream w s ≡ runBytes w s (nextRun s) ++ stream w (drop (taken (nextRun s)) s)
+pub stream-turn : (w : ℕ) (s : List ℕ) → 0 < length s
+    → stream w s ≡ runBytes w s (nextRun s) ++ stream w (drop (taken (nextRun s)) s)
 unfolding stream
 stream-turn w [] h = absurd (omega arith)
 stream-turn w (x ∷ s) h =

@@ -33,11 +33,14 @@ module _ (s : List ℕ) where
 
   -- ---- an open packed run
 
-  pub groups-more : (more p : ℕ) → p < length s → stretch (drop p s) < 8 → groupsOf (suc more) (drop p s) ≡ suc (groupsOf more (drop (p + 8) s))
+  pub groups-more : (more p : ℕ) → p < length s → stretch (drop p s) < 8
+      → groupsOf (suc more) (drop p s) ≡ suc (groupsOf more (drop (p + 8) s))
   unfolding groupsOf
   groups-more more p h l =
       let e = drop-cons s p 0 h in
-      rw e (rw (lt-leb 8 _ (rw e at l)) (ap (λ (t : List ℕ). suc (groupsOf more t)) (ap (drop 8) (sym e) ∙ drop-drop 8 p s)))
+      rw e
+      (rw (lt-leb 8 _ (rw e at l))
+      (ap (λ (t : List ℕ). suc (groupsOf more t)) (ap (drop 8) (sym e) ∙ drop-drop 8 p s)))
 
   pub groups-past : (more p : ℕ) → length s ≤ p → groupsOf more (drop p s) ≡ 0
   unfolding groupsOf

@@ -25,7 +25,8 @@ use Rattle.packed_entries.specs.RoundTrip.{unpack-packed}
 use Rattle.varints.specs.Shortness.{shortest-spells, shortest-size}
 use Rattle.runs_read.specs.Entries.{length-piece}
 use Rattle.runs_read.specs.Exact.{exact}
-use Rattle.runs_write.specs.Cuts.{stretch-le, stretch-each, groups-le, groups-within, groups-some, by-kind, fewer-left, by-runs, stream-none, stream-turn}
+use Rattle.runs_write.specs.Cuts.{stretch-le, stretch-each, groups-le, groups-within, groups-some, by-kind}
+use Rattle.runs_write.specs.Cuts.{fewer-left, by-runs, stream-none, stream-turn}
 use Rattle.runs_write.specs.Sizes.{length-groups}
 
 -- ---- one run
@@ -49,7 +50,9 @@ module _ (w : ℕ) (s : List ℕ) (few : length s ≤ 16384) (small : Small w s)
       let fits : stretch s ≤ length s = stretch-le s in
       record {
         piece = _;
-        one = repeats (shortest h) v (header h (omega arith)) (omega arith) fits (length-bytes (ceil w 8) (getD s 0 0)) (rw value (small 0));
+        one =
+            repeats (shortest h) v (header h (omega arith)) (omega arith) fits
+            (length-bytes (ceil w 8) (getD s 0 0)) (rw value (small 0));
         has = sym (tabulate-same (stretch s) (λ i. getD s i 0) (number v) (λ i l. stretch-each s i l ∙ sym value));
       }
 
@@ -63,7 +66,9 @@ module _ (w : ℕ) (s : List ℕ) (few : length s ≤ 16384) (small : Small w s)
       let fit : Small w xs = small-tabulate w (8 * groups) (λ i. getD s i 0) small in
       record {
         piece = _;
-        one = packs (shortest h) (packed lowFirst w xs) (header h (omega (arith, groups-le 63 s))) (groups-some 62 s some short) (groups-within 63 s) (length-groups w groups s);
+        one =
+            packs (shortest h) (packed lowFirst w xs) (header h (omega (arith, groups-le 63 s)))
+            (groups-some 62 s some short) (groups-within 63 s) (length-groups w groups s);
         has = rw size at (unpack-packed w xs (large-of w xs fit));
       }
 
@@ -79,22 +84,28 @@ pub record StreamBack (w : ℕ) (s page : List ℕ) : Type 0 where
   pub has : take (length s) (cutEntries w runs) ≡ s
 
 -- the first k entries, filled with 0, and behind them the others
-in-front : (s : List ℕ) (k : ℕ) (rest : List ℕ) → take (length (drop k s)) rest ≡ drop k s → take (length s) (tabulate k (λ i. getD s i 0) ++ rest) ≡ s
+in-front : (s : List ℕ) (k : ℕ) (rest : List ℕ) → take (length (drop k s)) rest ≡ drop k s
+    → take (length s) (tabulate k (λ i. getD s i 0) ++ rest) ≡ s
 unfolding tabulate
 in-front s zero rest e = e
 in-front [] (suc k) rest e = refl
 in-front (x ∷ s) (suc k) rest e = ap (λ (l : List ℕ). x ∷ l) (in-front s k rest e)
 
 -- one run, and behind it the runs of the entries that it leaves
-one-more : (w : ℕ) (s page : List ℕ) (run : Next) → 0 < length s → RunBack w s run → StreamBack w (drop (taken run) s) page → StreamBack w s (runBytes w s run ++ page)
+one-more : (w : ℕ) (s page : List ℕ) (run : Next) → 0 < length s → RunBack w s run
+    → StreamBack w (drop (taken run) s) page → StreamBack w s (runBytes w s run ++ page)
 unfolding cutEntries
 one-more w s page run some first rest =
     let k : ℕ = taken run in
-    let size : entries (first .piece) ≡ k = sym (length-piece w (first .piece)) ∙ ap length (first .has) ∙ length-tabulate k (λ i. getD s i 0) in
-    let left : length (drop k s) ≡ length s - entries (first .piece) = length-drop k s ∙ ap (λ (n : ℕ). length s - n) (sym size) in
+    let size : entries (first .piece) ≡ k =
+    sym (length-piece w (first .piece)) ∙ ap length (first .has) ∙ length-tabulate k (λ i. getD s i 0) in
+    let left : length (drop k s) ≡ length s - entries (first .piece) =
+    length-drop k s ∙ ap (λ (n : ℕ). length s - n) (sym size) in
     record {
       runs = first .piece ∷ rest .runs;
-      cut = next (runBytes w s run) page some (first .one) (subst (λ (n : ℕ). Cut w n page (rest .runs)) left (rest .cut));
+      cut =
+          next (runBytes w s run) page some (first .one)
+          (subst (λ (n : ℕ). Cut w n page (rest .runs)) left (rest .cut));
       has = rw (first .has) (in-front s k (cutEntries w (rest .runs)) (rest .has));
     }
 
@@ -105,7 +116,8 @@ stream-back w =
     by-runs (λ s. length s ≤ 16384 → Small w s → StreamBack w s (stream w s))
     (λ few small. rw stream-none (record { runs = []; cut = done; has = refl }))
     (λ s some rest few small. rw (stream-turn w s some)
-    (one-more w s _ (nextRun s) some (run-back w s few small some) (rest (omega (arith, fewer-left s some)) (small-drop w (taken (nextRun s)) s small))))
+    (one-more w s _ (nextRun s) some (run-back w s few small some)
+    (rest (omega (arith, fewer-left s some)) (small-drop w (taken (nextRun s)) s small))))
 
 module _ (w : ℕ) (s : List ℕ) (few : length s ≤ 16384) (small : Small w s) where
   abbrev back : StreamBack w s (stream w s)
@@ -124,4 +136,6 @@ module _ (w : ℕ) (s : List ℕ) (few : length s ≤ 16384) (small : Small w s)
       ∙ ap (λ (l : List ℕ). getD l i 0) (back .has)
 
   pub entries-back : tabulate (length s) (streamEntry w (read w (length s) (stream w s))) ≡ s
-  entries-back = tabulate-ext (length s) (streamEntry w (read w (length s) (stream w s))) (λ i. getD s i 0) entry-back ∙ tabulate-list s 0
+  entries-back =
+      tabulate-ext (length s) (streamEntry w (read w (length s) (stream w s))) (λ i. getD s i 0) entry-back
+      ∙ tabulate-list s 0

@@ -28,8 +28,10 @@ fn put_repeated(
     page: &mut [u8],
     at: usize,
 ) -> usize
-    requires { ⌜ (w ≤ 32) × (count ≤ 16391) × (p < length (now entries)) × (at + runSize w (Repeats count) ≤ length (now page)) ⌝ }
-    ensures stored { λ _. ⌜ now (page .exit) ≡ put (now (page .entry)) at (runBytes w (drop p (now (entries .entry))) (Repeats count)) ⌝ }
+    requires { ⌜ (w ≤ 32) × (count ≤ 16391) × (p < length (now entries))
+        × (at + runSize w (Repeats count) ≤ length (now page)) ⌝ }
+    ensures stored { λ _. ⌜ now (page .exit)
+        ≡ put (now (page .entry)) at (runBytes w (drop p (now (entries .entry))) (Repeats count)) ⌝ }
     ensures next { λ r. ⌜ r ≡ at + runSize w (Repeats count) ⌝ }
 {
     let from = put_number(page, at, (2 * count) as u32);
@@ -40,8 +42,11 @@ fn put_repeated(
 
 // Groups of 8, w bytes each, from byte `from` on: past the end of the entries they are filled with 0.
 fn put_groups(entries: &[u32], p: usize, groups: usize, w: u32, page: &mut [u8], from: usize)
-    requires { ⌜ (w ≤ 32) × (8 * groups ≤ 16391) × (p ≤ length (now entries)) × (anyLarge w (now entries) ≡ false) × (from + w * groups ≤ length (now page)) ⌝ }
-    ensures { λ _. ⌜ now (page .exit) ≡ put (now (page .entry)) from (packed lowFirst w (filled groups (drop p (now (entries .entry))))) ⌝ }
+    requires { ⌜ (w ≤ 32) × (8 * groups ≤ 16391) × (p ≤ length (now entries))
+        × (anyLarge w (now entries) ≡ false) × (from + w * groups ≤ length (now page)) ⌝ }
+    ensures { λ _. ⌜ now (page .exit)
+        ≡ put (now (page .entry)) from
+        (packed lowFirst w (filled groups (drop p (now (entries .entry))))) ⌝ }
 {
     let m = min(8 * groups, entries.len() - p);
     let laid = (m * w as usize + 7) / 8;
@@ -51,8 +56,10 @@ fn put_groups(entries: &[u32], p: usize, groups: usize, w: u32, page: &mut [u8],
 
 // Groups of entries from place p on: an odd header, and the groups behind it.
 fn put_packed(entries: &[u32], p: usize, groups: usize, w: u32, page: &mut [u8], at: usize) -> usize
-    requires { ⌜ (w ≤ 32) × (8 * groups ≤ 16391) × (p ≤ length (now entries)) × (anyLarge w (now entries) ≡ false) × (at + runSize w (Packs groups) ≤ length (now page)) ⌝ }
-    ensures stored { λ _. ⌜ now (page .exit) ≡ put (now (page .entry)) at (runBytes w (drop p (now (entries .entry))) (Packs groups)) ⌝ }
+    requires { ⌜ (w ≤ 32) × (8 * groups ≤ 16391) × (p ≤ length (now entries))
+        × (anyLarge w (now entries) ≡ false) × (at + runSize w (Packs groups) ≤ length (now page)) ⌝ }
+    ensures stored { λ _. ⌜ now (page .exit)
+        ≡ put (now (page .entry)) at (runBytes w (drop p (now (entries .entry))) (Packs groups)) ⌝ }
     ensures next { λ r. ⌜ r ≡ at + runSize w (Packs groups) ⌝ }
 {
     let from = put_number(page, at, (2 * groups + 1) as u32);
@@ -62,8 +69,11 @@ fn put_packed(entries: &[u32], p: usize, groups: usize, w: u32, page: &mut [u8],
 
 // The run of entries from place p on, from place `at` of the page on; the next place is given.
 fn put_run(entries: &[u32], p: usize, w: u32, next: Next, page: &mut [u8], at: usize) -> usize
-    requires { ⌜ (w ≤ 32) × (p < length (now entries)) × (anyLarge w (now entries) ≡ false) × (RunWriter.taken next ≤ 16391) × (at + length (runBytes w (drop p (now entries)) next) ≤ length (now page)) ⌝ }
-    ensures stored { λ _. ⌜ now (page .exit) ≡ put (now (page .entry)) at (runBytes w (drop p (now (entries .entry))) next) ⌝ }
+    requires { ⌜ (w ≤ 32) × (p < length (now entries)) × (anyLarge w (now entries) ≡ false)
+        × (RunWriter.taken next ≤ 16391)
+        × (at + length (runBytes w (drop p (now entries)) next) ≤ length (now page)) ⌝ }
+    ensures stored { λ _. ⌜ now (page .exit)
+        ≡ put (now (page .entry)) at (runBytes w (drop p (now (entries .entry))) next) ⌝ }
     ensures next { λ r. ⌜ r ≡ at + length (runBytes w (drop p (now (entries .entry))) next) ⌝ }
 {
     match next {
@@ -74,7 +84,8 @@ fn put_run(entries: &[u32], p: usize, w: u32, next: Next, page: &mut [u8], at: u
 
 // The stream of the entries, run by run.
 pub fn put_stream(entries: &[u32], w: u32, page: &mut [u8])
-    requires { ⌜ (w ≤ 32) × (length (now entries) ≤ 16384) × (anyLarge w (now entries) ≡ false) × (length (stream w (now entries)) ≤ length (now page)) ⌝ }
+    requires { ⌜ (w ≤ 32) × (length (now entries) ≤ 16384) × (anyLarge w (now entries) ≡ false)
+        × (length (stream w (now entries)) ≤ length (now page)) ⌝ }
     ensures { λ _. ⌜ now (page .exit) ≡ put (now (page .entry)) 0 (stream w (now (entries .entry))) ⌝ }
 {
     let mut at: usize = 0;

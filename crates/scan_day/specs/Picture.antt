@@ -17,12 +17,14 @@ secondsOf cell entries = min (entries - cell * 1200) 1200
 
 -- some of a cell's seconds, but not all
 unfoldable pub byThirds : ℕ → ℕ → ℕ
-byThirds seconds selected = cond (leb selected (seconds / 3)) (code ".") (cond (leb selected (2 * (seconds / 3))) (code ":") (code "+"))
+byThirds seconds selected =
+    cond (leb selected (seconds / 3)) (code ".") (cond (leb selected (2 * (seconds / 3))) (code ":") (code "+"))
 
 -- a cell of so many seconds, of which so many were answered, and so many selected
 unfoldable pub cellOf : ℕ → ℕ → ℕ → ℕ
 cellOf seconds answered selected =
-    cond (ltb answered seconds) (code "?") (cond (eqb selected 0) (code " ") (cond (leb seconds selected) (code "#") (byThirds seconds selected)))
+    cond (ltb answered seconds) (code "?")
+    (cond (eqb selected 0) (code " ") (cond (leb seconds selected) (code "#") (byThirds seconds selected)))
 
 -- cell c of a column of so many entries, from how many seconds of each cell were answered and selected
 abbrev pub cellAt : ℕ → List ℕ → List ℕ → ℕ → ℕ
@@ -32,6 +34,8 @@ unfoldable pub stripOf : ℕ → List ℕ → List ℕ → List ℕ
 stripOf entries answered selected = tabulate 72 (cellAt entries answered selected)
 
 -- one character more behind the first c
-pub one-more-cell : (f : ℕ → ℕ) (c : ℕ) (text more : List ℕ) → text ≡ laid [] (tabulate c f) → more ≡ laid text (f c ∷ []) → more ≡ laid [] (tabulate (c + 1) f)
+pub one-more-cell : (f : ℕ → ℕ) (c : ℕ) (text more : List ℕ) → text ≡ laid [] (tabulate c f)
+    → more ≡ laid text (f c ∷ []) → more ≡ laid [] (tabulate (c + 1) f)
 one-more-cell f c text more so is =
-    is ∙ ap (λ (t : List ℕ). laid t (f c ∷ [])) so ∙ laid-laid [] (tabulate c f) (f c ∷ []) ∙ ap (laid []) (sym (tabulate-snoc c f))
+    is ∙ ap (λ (t : List ℕ). laid t (f c ∷ [])) so ∙ laid-laid [] (tabulate c f) (f c ∷ [])
+    ∙ ap (laid []) (sym (tabulate-snoc c f))

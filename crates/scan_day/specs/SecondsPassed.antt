@@ -1,4 +1,5 @@
--- What is kept of the seconds passed: how many, how many of them selected, the first and the last of these, and how many of each cell.
+-- What is kept of the seconds passed: how many, how many of them selected, the first and the last of these, and how
+-- many of each cell.
 use mathlib.Core.Path.{_≡_, sym, ap, _∙_}
 use mathlib.Core.Bool.{Bool, true, false, cond, _&&_}
 use mathlib.Core.List.{List}
@@ -19,13 +20,40 @@ abbrev pub fresh : Bool → Day
 fresh listing = record { read = 0; count = 0; first = 0; last = 0; lost = 0; listing = listing }
 
 abbrev pub losing : Day → Day
-losing d = record { read = d .read; count = d .count; first = d .first; last = d .last; lost = more (d .lost); listing = d .listing }
+losing d =
+    record {
+      read = d .read;
+      count = d .count;
+      first = d .first;
+      last = d .last;
+      lost = more (d .lost);
+      listing = d
+          .listing;
+    }
 
 abbrev pub reading : Day → Day
-reading d = record { read = more (d .read); count = d .count; first = d .first; last = d .last; lost = d .lost; listing = d .listing }
+reading d =
+    record {
+      read = more (d .read);
+      count = d .count;
+      first = d .first;
+      last = d .last;
+      lost = d .lost;
+      listing = d
+          .listing;
+    }
 
 abbrev pub selecting : ℕ → Day → Day
-selecting s d = record { read = d .read; count = more (d .count); first = cond (eqb (d .count) 0) s (d .first); last = s; lost = d .lost; listing = d .listing }
+selecting s d =
+    record {
+      read = d .read;
+      count = more (d .count);
+      first = cond (eqb (d .count) 0) s (d .first);
+      last = s;
+      lost = d
+          .lost;
+      listing = d .listing;
+    }
 
 -- a second more, selected or not
 abbrev pub passing : Bool → ℕ → Day → Day
@@ -33,7 +61,9 @@ passing chosen s d = cond chosen (selecting s (reading d)) (reading d)
 
 -- one second more in its cell of twenty minutes, which has room for 1,200; past the day there are no cells
 abbrev pub inCell : ℕ → List ℕ → List ℕ
-inCell s cells = cond (ltb (s / 1200) 72 && ltb (getD cells (s / 1200) 0) 1200) (set cells (s / 1200) (getD cells (s / 1200) 0 + 1)) cells
+inCell s cells =
+    cond (ltb (s / 1200) 72 && ltb (getD cells (s / 1200) 0) 1200)
+    (set cells (s / 1200) (getD cells (s / 1200) 0 + 1)) cells
 
 -- the same of a second that is counted, or is not
 abbrev pub counting : Bool → ℕ → List ℕ → List ℕ
@@ -63,7 +93,8 @@ module _ {A : Type 0} (step : Bool → ℕ → A → A) (chosen : ℕ → Bool) 
   unfolding stepped
   stepped-none = let none : from - from ≡ 0 = omega arith in rw none
 
-  pub stepped-next : (s : ℕ) (t : Bool) (d r : A) → from ≤ s → t ≡ chosen s → d ≡ stepped step chosen from (s - from) before → r ≡ step t s d
+  pub stepped-next : (s : ℕ) (t : Bool) (d r : A) → from ≤ s → t ≡ chosen s
+      → d ≡ stepped step chosen from (s - from) before → r ≡ step t s d
       → r ≡ stepped step chosen from (s + 1 - from) before
   unfolding stepped
   stepped-next s t d r h e so is =
@@ -71,5 +102,7 @@ module _ {A : Type 0} (step : Bool → ℕ → A → A) (chosen : ℕ → Bool) 
       let place : from + (s - from) ≡ s = omega arith in
       rw (one, place, ← so, ← e) is
 
-  pub stepped-all : (s end : ℕ) (d : A) → s - from ≤ end - from → end ≤ s → d ≡ stepped step chosen from (s - from) before → d ≡ stepped step chosen from (end - from) before
-  stepped-all s end d h k so = let all : s - from ≡ end - from = omega arith in so ∙ ap (λ (n : ℕ). stepped step chosen from n before) all
+  pub stepped-all : (s end : ℕ) (d : A) → s - from ≤ end - from → end ≤ s
+      → d ≡ stepped step chosen from (s - from) before → d ≡ stepped step chosen from (end - from) before
+  stepped-all s end d h k so =
+      let all : s - from ≡ end - from = omega arith in so ∙ ap (λ (n : ℕ). stepped step chosen from n before) all

@@ -12,4 +12,5 @@ sentenceOf d =
     cond (eqb (d .read) 0) (ascii "no second was read")
     (cond (eqb (d .count) 0) (ascii "none of " ++ (decimal (d .read) ++ ascii " seconds selected"))
     (decimal (d .count)
-    ++ (ascii " of " ++ (decimal (d .read) ++ (ascii " seconds selected, the first at " ++ (clockTime (d .first) ++ (ascii ", the last at " ++ clockTime (d .last))))))))
+    ++ (ascii " of " ++ (decimal (d .read) ++ (ascii " seconds selected, the first at "
+    ++ (clockTime (d .first) ++ (ascii ", the last at " ++ clockTime (d .last))))))))

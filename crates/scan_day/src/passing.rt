@@ -1,8 +1,10 @@
-// What is kept of the pages passed: how many seconds are selected, the first and the last, and the day's cells.
+// What is kept of the pages passed: how many seconds are selected, the first and the last, and the day's
+// cells.
 ghost use mathlib.Core.Path.{_≡_};
 ghost use mathlib.Core.Bool.{true};
 ghost use Prim.Native.Nat.{_-_};
-ghost use Rattle.scan_day.specs.SecondsPassed.{more, fresh, losing, reading, selecting, passing, passed, inCell, counting, counts, chosenBy};
+ghost use Rattle.scan_day.specs.SecondsPassed.{more, fresh, losing, reading, selecting, passing};
+ghost use Rattle.scan_day.specs.SecondsPassed.{passed, inCell, counting, counts, chosenBy};
 use bitmaps::is_set;
 use lines::Line;
 
@@ -119,8 +121,10 @@ pub fn page_passed(
     answered: &mut [u32; CELLS],
 ) -> Day
     ensures { λ r. ⌜ r ≡ passed (chosenBy (now (bitmap .entry))) start (end - start) before ⌝ }
-    ensures { λ _. ⌜ now (selected .exit) ≡ counts (chosenBy (now (bitmap .entry))) start (end - start) (now (selected .entry)) ⌝ }
-    ensures { λ _. ⌜ now (answered .exit) ≡ counts (λ _. true) start (end - start) (now (answered .entry)) ⌝ }
+    ensures { λ _. ⌜ now (selected .exit)
+        ≡ counts (chosenBy (now (bitmap .entry))) start (end - start) (now (selected .entry)) ⌝ }
+    ensures { λ _. ⌜ now (answered .exit)
+        ≡ counts (λ _. true) start (end - start) (now (answered .entry)) ⌝ }
 {
     let mut day = before;
     let mut second = start;

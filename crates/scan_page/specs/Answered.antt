@@ -32,7 +32,8 @@ Answered q dictionary n before true after = Scanned q dictionary n before after
 Answered q dictionary n before false after = after ≡ before
 
 -- bytes that are words, of which there is room for 20,480
-pub all-in-words : (page : List ℕ) → length page ≤ 163840 → length page % 8 ≡ 0 → length (wordsOf page) * 8 ≡ length page
+pub all-in-words : (page : List ℕ) → length page ≤ 163840 → length page % 8 ≡ 0
+    → length (wordsOf page) * 8 ≡ length page
 unfolding wordsOf
 all-in-words page room words = omega (arith, length-tabulate (min (length page / 8) 20480) (wordAt page))
 
@@ -43,14 +44,17 @@ Keeps before o = (r : Answer) (after : List ℕ) → outcome r after ≡ o → (
 
 answered-keeps : (code n : ℕ) (wrote before : List ℕ) → Keeps before (answered code n wrote before)
 unfolding answered
-answered-keeps zero n wrote before r after e refused = let good : r ≡ accepted n = cc in absurd (refused (ap (λ (a : Answer). a .code) good))
+answered-keeps zero n wrote before r after e refused =
+    let good : r ≡ accepted n = cc in absurd (refused (ap (λ (a : Answer). a .code) good))
 answered-keeps (suc code) n wrote before r after e refused = cc
 
-cond-keeps : (t : Bool) {before : List ℕ} {a b : Outcome ℕ} → Keeps before a → Keeps before b → Keeps before (cond t a b)
+cond-keeps : (t : Bool) {before : List ℕ} {a b : Outcome ℕ} → Keeps before a → Keeps before b
+    → Keeps before (cond t a b)
 cond-keeps true keeps others = keeps
 cond-keeps false keeps others = others
 
-pub scan-keeps : (q : Question) (dictionary page : List ℕ) (n : ℕ) (before : List ℕ) → Keeps before (scanOf q dictionary page n before)
+pub scan-keeps : (q : Question) (dictionary page : List ℕ) (n : ℕ) (before : List ℕ)
+    → Keeps before (scanOf q dictionary page n before)
 unfolding scanOf Horizontal.scan Vertical.scan Runs.scan Delta.scan Dictionary.scan
 scan-keeps q dictionary page n before =
     cond-keeps (eqb (q .layout) 0) (answered-keeps _ _ _ before)

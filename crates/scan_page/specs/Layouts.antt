@@ -35,10 +35,13 @@ scanOf q dictionary page n before =
     (Dictionary.scan dictionary page n (q .op) (q .a) (q .b) before))))
 
 -- the words put into a room for 20,480 are its first ones
-pub front-words : (room words page : List ℕ) (k : ℕ) → length room ≡ 20480 → k ≡ min (length page / 8) (length room) → words ≡ put room 0 (tabulate k (wordAt page))
+pub front-words : (room words page : List ℕ) (k : ℕ) → length room ≡ 20480 → k ≡ min (length page / 8) (length room)
+    → words ≡ put room 0 (tabulate k (wordAt page))
     → take (k - 0) words ≡ wordsOf page
 unfolding put wordsOf
 front-words room words page k size some e =
     let all : k - 0 ≡ k = omega arith in
-    ap₂ (λ (n : ℕ) (l : List ℕ). take n l) all e ∙ take-at (tabulate k (wordAt page)) (drop (0 + length (tabulate k (wordAt page))) room) k (length-tabulate k (wordAt page))
+    ap₂ (λ (n : ℕ) (l : List ℕ). take n l) all e
+    ∙ take-at (tabulate k (wordAt page)) (drop (0 + length (tabulate k (wordAt page))) room) k
+    (length-tabulate k (wordAt page))
     ∙ ap (λ (n : ℕ). tabulate n (wordAt page)) (some ∙ ap (min (length page / 8)) size)

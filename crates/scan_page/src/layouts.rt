@@ -26,7 +26,8 @@ pub struct Question {
 
 // One page of n entries scanned; the dictionary is empty in all layouts but its own.
 pub fn scan(q: Question, dictionary: &[u8], page: &[u8], n: usize, bitmap: &mut [u8]) -> Answer
-    ensures { λ r. ⌜ outcome r (now (bitmap .exit)) ≡ scanOf q (now (dictionary .entry)) (now (page .entry)) n (now (bitmap .entry)) ⌝ }
+    ensures { λ r. ⌜ outcome r (now (bitmap .exit))
+        ≡ scanOf q (now (dictionary .entry)) (now (page .entry)) n (now (bitmap .entry)) ⌝ }
 {
     let layout = q.layout;
     match layout {
@@ -42,7 +43,9 @@ pub fn scan(q: Question, dictionary: &[u8], page: &[u8], n: usize, bitmap: &mut 
 const WORDS: usize = 20480;
 
 fn scan_planes(q: Question, page: &[u8], n: usize, bitmap: &mut [u8]) -> Answer
-    ensures { λ r. ⌜ outcome r (now (bitmap .exit)) ≡ Vertical.scan (wordsOf (now (page .entry))) (q .width) n (q .op) (q .a) (q .b) (now (bitmap .entry)) ⌝ }
+    ensures { λ r. ⌜ outcome r (now (bitmap .exit))
+        ≡ Vertical.scan (wordsOf (now (page .entry))) (q .width) n (q .op) (q .a) (q .b)
+        (now (bitmap .entry)) ⌝ }
 {
     let mut words = [0u64; WORDS];
     let k = words_of(page, &mut words);
@@ -52,7 +55,8 @@ fn scan_planes(q: Question, page: &[u8], n: usize, bitmap: &mut [u8]) -> Answer
 // The page's words, low byte first, and how many there are.
 fn words_of(page: &[u8], words: &mut [u64]) -> usize
     ensures { λ r. ⌜ r ≡ min (length (now (page .entry)) / 8) (length (now (words .entry))) ⌝ }
-    ensures { λ r. ⌜ now (words .exit) ≡ put (now (words .entry)) 0 (tabulate r (wordAt (now (page .entry)))) ⌝ }
+    ensures { λ r. ⌜ now (words .exit)
+        ≡ put (now (words .entry)) 0 (tabulate r (wordAt (now (page .entry)))) ⌝ }
 {
     let all = min(page.len() / 8, words.len());
     let mut k: usize = 0;

@@ -3,8 +3,8 @@ use mathlib.Core.Path.{_≡_}
 use Prim.Native.Nat.{ℕ, _<_, _≤_}
 use Rattle.scan_question.specs.declared.comparisons.Comparison.{Comparison}
 
--- at the end of m words: no more are taken than there are; and where any are, the operator is one of the eight of document 01,
--- and the words are it and its constants, one for 0 to 5, two for 6 and 7
+-- at the end of m words: no more are taken than there are; and where any are, the operator is one of the eight of
+-- document 01, and the words are it and its constants, one for 0 to 5, two for 6 and 7
 pub record Understood (m : ℕ) (c : Comparison) : Type 0 where
   pub fits : c .words ≤ m
   pub known : 0 < c .words → c .op < 8

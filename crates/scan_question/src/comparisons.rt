@@ -151,7 +151,8 @@ fn longer(before: usize, first: usize, second: usize) -> Comparison
     by_number(before, first, second)
 }
 
-// By its number an operator might be a constant of a mistyped one: what stands before it must then be a file.
+// By its number an operator might be a constant of a mistyped one: what stands before it must then be a
+// file.
 fn by_number(before: usize, first: usize, second: usize) -> Comparison
     ensures { λ r. ⌜ Understood 2 r ⌝ }
 {

@@ -1,4 +1,5 @@
-// What the program says besides its answer, in sentences that say what to do: all but its help on standard error.
+// What the program says besides its answer, in sentences that say what to do: all but its help on standard
+// error.
 ghost use mathlib.Core.Path.{_≡_};
 ghost use mathlib.Core.Bool.{false};
 use libc::STDERR_FILENO;

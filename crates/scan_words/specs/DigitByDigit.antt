@@ -20,7 +20,8 @@ unfolding onward
 high m [] h = rw (le-ltb m 9223372036854775810 h)
 high m (b ∷ word) h = by-digit (isDigit b) (high (m * 10 + (b - 48)) word (omega arith))
   where
-    by-digit : (t : Bool) → capped (onward (m * 10 + (b - 48)) word) ≡ 18446744073709551615 → capped (cond t (onward (m * 10 + (b - 48)) word) none) ≡ 18446744073709551615
+    by-digit : (t : Bool) → capped (onward (m * 10 + (b - 48)) word) ≡ 18446744073709551615
+        → capped (cond t (onward (m * 10 + (b - 48)) word) none) ≡ 18446744073709551615
     by-digit true e = e
     by-digit false e = refl
 
@@ -29,8 +30,12 @@ unfolding onward further
 step m b word = go (ltb 922337203685477580 m) (isDigit b) refl
   where
     go : (full digit : Bool) → ltb 922337203685477580 m ≡ full
-        → capped (cond digit (onward (m * 10 + (b - 48)) word) none) ≡ capped (onward (cond full 18446744073709551615 (cond digit (m * 10 + (b - 48)) 18446744073709551615)) word)
-    go true true e = high (m * 10 + (b - 48)) word (omega (arith, ltb-true 922337203685477580 m e)) ∙ sym (high 18446744073709551615 word (omega arith))
+        → capped (cond digit (onward (m * 10 + (b - 48)) word) none)
+        ≡ capped
+        (onward (cond full 18446744073709551615 (cond digit (m * 10 + (b - 48)) 18446744073709551615)) word)
+    go true true e =
+        high (m * 10 + (b - 48)) word (omega (arith, ltb-true 922337203685477580 m e))
+        ∙ sym (high 18446744073709551615 word (omega arith))
     go true false e = sym (high 18446744073709551615 word (omega arith))
     go false true e = refl
     go false false e = sym (high 18446744073709551615 word (omega arith))
@@ -46,21 +51,29 @@ kept m b = go (ltb 922337203685477580 m) (leb 48 b) (leb b 57) refl refl
     go true from to e f = refl
     go false false to e f = refl
     go false true false e f = refl
-    go false true true e f = rw (lt-ltb (m * 10 + (b - 48)) 9223372036854775810 (omega (arith, ltb-false 922337203685477580 m e, leb-true b 57 f)))
+    go false true true e f =
+        rw
+        (lt-ltb (m * 10 + (b - 48)) 9223372036854775810
+        (omega (arith, ltb-false 922337203685477580 m e, leb-true b 57 f)))
 
-pub begun : (word : List ℕ) (from : ℕ) → from < length word → capped (onward 0 (drop from word)) ≡ capped (spelled (drop from word))
+pub begun : (word : List ℕ) (from : ℕ) → from < length word
+    → capped (onward 0 (drop from word)) ≡ capped (spelled (drop from word))
 unfolding spelled
 begun word from h = rw (drop-cons word from 0 h)
 
-pub next : (word whole : List ℕ) (m i r : ℕ) → i < length word → r ≡ further m (getD word i 0) → capped (onward m (drop i word)) ≡ capped (spelled whole)
+pub next : (word whole : List ℕ) (m i r : ℕ) → i < length word → r ≡ further m (getD word i 0)
+    → capped (onward m (drop i word)) ≡ capped (spelled whole)
     → capped (onward r (drop (i + 1) word)) ≡ capped (spelled whole)
-next word whole m i r h e so = rw (e, add-one i) (sym (step m (getD word i 0) (drop (suc i) word)) ∙ rw (drop-cons word i 0 h) at so)
+next word whole m i r h e so =
+    rw (e, add-one i) (sym (step m (getD word i 0) (drop (suc i) word)) ∙ rw (drop-cons word i 0 h) at so)
 
-pub missing : (word : List ℕ) (from : ℕ) → length word ≤ from → 18446744073709551615 ≡ capped (spelled (drop from word))
+pub missing : (word : List ℕ) (from : ℕ) → length word ≤ from
+    → 18446744073709551615 ≡ capped (spelled (drop from word))
 unfolding spelled
 missing word from h = rw (drop-of-length-le word {i = from} h)
 
-pub ended : (word whole : List ℕ) (m i : ℕ) → length word ≤ i → capped (some m) ≡ m → capped (onward m (drop i word)) ≡ capped (spelled whole) → m ≡ capped (spelled whole)
+pub ended : (word whole : List ℕ) (m i : ℕ) → length word ≤ i → capped (some m) ≡ m
+    → capped (onward m (drop i word)) ≡ capped (spelled whole) → m ≡ capped (spelled whole)
 unfolding onward
 ended word whole m i h own e = sym own ∙ rw (drop-of-length-le word {i = i} h) at e
 
@@ -84,7 +97,8 @@ module _ (m : ℕ) where
       go false f p = rw (le-ltb n (2 ^ 32) (omega (arith, ltb-false n 9223372036854775810 f)))
 
   -- a sign is put to what is kept
-  fit : (f : ℕ → Constant) → ((n : ℕ) → 9223372036854775810 ≤ n → f 18446744073709551615 ≡ f n) → f 18446744073709551615 ≡ fitting f none
+  fit : (f : ℕ → Constant) → ((n : ℕ) → 9223372036854775810 ≤ n → f 18446744073709551615 ≡ f n)
+      → f 18446744073709551615 ≡ fitting f none
       → (o : Option ℕ) → m ≡ capped o → f m ≡ fitting f o
   fit f far empty none e = ap f e ∙ empty
   fit f far empty (some n) e = go (ltb n 9223372036854775810) refl e

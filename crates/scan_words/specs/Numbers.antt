@@ -61,4 +61,5 @@ capped (some m) = cond (ltb m 9223372036854775810) m 18446744073709551615
 
 -- a digit more, as it is kept
 unfoldable pub further : ℕ → ℕ → ℕ
-further m b = cond (ltb 922337203685477580 m) 18446744073709551615 (cond (isDigit b) (m * 10 + (b - 48)) 18446744073709551615)
+further m b =
+    cond (ltb 922337203685477580 m) 18446744073709551615 (cond (isDigit b) (m * 10 + (b - 48)) 18446744073709551615)

@@ -3,7 +3,8 @@ ghost use mathlib.Core.Path.{_≡_};
 ghost use Prim.Native.Nat.{_≤_};
 ghost use lib.Dec.{ltb};
 ghost use lib.ListN.{length};
-ghost use Rattle.scan_words.specs.Names.{place, words, operators, operatorNumber, layouts, options, dashed, helps};
+ghost use Rattle.scan_words.specs.Names.{place, words, operators, operatorNumber, layouts, options};
+ghost use Rattle.scan_words.specs.Names.{dashed, helps};
 use bytes::scan::find;
 use check::same;
 
@@ -36,7 +37,8 @@ pub const NUMBERS: u32 = 4;
 
 pub const NO_OPTION: u32 = 5;
 
-// Which of some names a word is, the first being 0; as many as there are where it is none. A blank stands between names.
+// Which of some names a word is, the first being 0; as many as there are where it is none. A blank stands
+// between names.
 fn place_in(word: &[u8], names: &[u8]) -> u32
     requires { ⌜ length (now names) ≤ 100 ⌝ }
     ensures { λ r. ⌜ r ≡ place (now (word .entry)) (words (now (names .entry))) ⌝ }

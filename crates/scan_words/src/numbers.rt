@@ -1,7 +1,8 @@
 // Numbers as they are typed: decimal digits, a sign before them.
 ghost use mathlib.Core.Path.{_≡_};
 ghost use lib.ListN.{drop};
-ghost use Rattle.scan_words.specs.Numbers.{further, capped, spelled, atMost, below, countOf, constantOf};
+ghost use Rattle.scan_words.specs.Numbers.{further, capped, spelled, atMost, below, countOf};
+ghost use Rattle.scan_words.specs.Numbers.{constantOf};
 use signed::zigzag::unzig;
 
 // A signed number of 64 bits, or none.

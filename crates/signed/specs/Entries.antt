@@ -32,7 +32,8 @@ module _ (W : ℕ) (first : ℤ) (ds : List ℤ) where
   unfolding reached entryOf
   reached-entry zero = refl
   reached-entry (suc i) =
-      modulo-wrapped W (entryOf W first ds i +ℤ getD ds i (pos 0)) ∙ modulo-add W (entryOf W first ds i) (getD ds i (pos 0))
+      modulo-wrapped W (entryOf W first ds i +ℤ getD ds i (pos 0))
+      ∙ modulo-add W (entryOf W first ds i) (getD ds i (pos 0))
       ∙ ap (λ (x : ℕ). (x + step W ds i) % 2 ^ W) (reached-entry i)
 
   -- an entry raised
@@ -47,5 +48,7 @@ module _ (W : ℕ) (first : ℤ) (ds : List ℤ) where
   entry-within h (suc i) = wrapped-within W (entryOf W first ds i +ℤ getD ds i (pos 0)) (some-bits W first h)
 
   -- and its remainder stands for it
-  pub entry-reached : Within W first → (i : ℕ) → signed W (reached W (modulo W first) (step W ds) i) ≡ entryOf W first ds i
-  entry-reached h i = ap (signed W) (sym (reached-entry i)) ∙ signed-modulo W (entryOf W first ds i) (entry-within h i)
+  pub entry-reached : Within W first → (i : ℕ)
+      → signed W (reached W (modulo W first) (step W ds) i) ≡ entryOf W first ds i
+  entry-reached h i =
+      ap (signed W) (sym (reached-entry i)) ∙ signed-modulo W (entryOf W first ds i) (entry-within h i)

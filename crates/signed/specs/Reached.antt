@@ -17,12 +17,14 @@ module _ (W x : ℕ) (d : ℕ → ℕ) where
   reached-add a (suc j) = rw (reached-add a j, add-suc)
 
   -- steps count only modulo 2^W
-  pub reached-ext : (e : ℕ → ℕ) (k j : ℕ) → ((i : ℕ) → i < k → d i % 2 ^ W ≡ e i % 2 ^ W) → j ≤ k → reached W x d j ≡ reached W x e j
+  pub reached-ext : (e : ℕ → ℕ) (k j : ℕ) → ((i : ℕ) → i < k → d i % 2 ^ W ≡ e i % 2 ^ W) → j ≤ k
+      → reached W x d j ≡ reached W x e j
   unfolding reached
   reached-ext e k zero h l = refl
   reached-ext e k (suc j) h l =
       ap (λ (y : ℕ). (y + d j) % 2 ^ W) (reached-ext e k j h (omega arith))
-      ∙ sym (add-mod-mod (reached W x e j) (d j) (2 ^ W)) ∙ ap (λ (y : ℕ). (reached W x e j + y) % 2 ^ W) (h j (omega arith))
+      ∙ sym (add-mod-mod (reached W x e j) (d j) (2 ^ W))
+      ∙ ap (λ (y : ℕ). (reached W x e j + y) % 2 ^ W) (h j (omega arith))
       ∙ add-mod-mod (reached W x e j) (e j) (2 ^ W)
 
   -- from c further on, c further on
@@ -32,5 +34,6 @@ module _ (W x : ℕ) (d : ℕ → ℕ) where
   reached-raised c (suc j) =
       let r : ℕ = reached W x d j in
       let swap : r + c + d j ≡ r + d j + c = omega arith in
-      ap (λ (y : ℕ). (y + d j) % 2 ^ W) (reached-raised c j) ∙ mod-add-mod (r + c) (2 ^ W) (d j) ∙ ap (λ (y : ℕ). y % 2 ^ W) swap
+      ap (λ (y : ℕ). (y + d j) % 2 ^ W) (reached-raised c j) ∙ mod-add-mod (r + c) (2 ^ W) (d j)
+      ∙ ap (λ (y : ℕ). y % 2 ^ W) swap
       ∙ sym (mod-add-mod (r + d j) (2 ^ W) c)

@@ -2,7 +2,8 @@
 use mathlib.Core.Path.{_≡_, refl, sym, ap, _∙_}
 use mathlib.Core.Bool.{Bool, true, false, cond}
 use Prim.Native.Nat.{ℕ, zero, suc, _+_, _-_, _/_, _%_, _^_, _<_}
-use native.Mathlib.Nat.{mod-lt, mod-eq-of-lt, mod-self, mod-add-mod, add-mod-mod, add-mod-right, zero-mod, add-assoc, pow-suc}
+use native.Mathlib.Nat.{mod-lt, mod-eq-of-lt, mod-self, mod-add-mod, add-mod-mod, add-mod-right, zero-mod}
+use native.Mathlib.Nat.{add-assoc, pow-suc}
 use native.Mathlib.Numerals.{add-one}
 use native.Mathlib.Omega.{arith}
 use lib.Dec.{ltb}
@@ -34,10 +35,12 @@ module _ (W : ℕ) where
       next : suc k % 2 ^ W ≡ (k % 2 ^ W + 1) % 2 ^ W
       next = ap (λ (x : ℕ). x % 2 ^ W) (sym (add-one k)) ∙ sym (mod-add-mod k (2 ^ W) 1)
 
-      go : (t : Bool) → ltb (k % 2 ^ W + 1) (2 ^ W) ≡ t → 2 ^ W - suc (k % 2 ^ W) ≡ (2 ^ W - suc (suc k % 2 ^ W) + 1) % 2 ^ W
+      go : (t : Bool) → ltb (k % 2 ^ W + 1) (2 ^ W) ≡ t
+          → 2 ^ W - suc (k % 2 ^ W) ≡ (2 ^ W - suc (suc k % 2 ^ W) + 1) % 2 ^ W
       go true e =
           let f : suc k % 2 ^ W ≡ k % 2 ^ W + 1 = next ∙ mod-eq-of-lt (ltb-true (k % 2 ^ W + 1) (2 ^ W) e) in
-          let g : 2 ^ W - suc (suc k % 2 ^ W) + 1 ≡ 2 ^ W - suc (k % 2 ^ W) = omega (arith, ltb-true (k % 2 ^ W + 1) (2 ^ W) e) in
+          let g : 2 ^ W - suc (suc k % 2 ^ W) + 1 ≡ 2 ^ W - suc (k % 2 ^ W) =
+          omega (arith, ltb-true (k % 2 ^ W + 1) (2 ^ W) e) in
           sym (ap (λ (x : ℕ). x % 2 ^ W) g ∙ mod-eq-of-lt (omega (arith, some)))
       go false e =
           let all : k % 2 ^ W + 1 ≡ 2 ^ W = omega (arith, ltb-false (k % 2 ^ W + 1) (2 ^ W) e, mod-lt k some) in
@@ -53,19 +56,25 @@ module _ (W : ℕ) where
       let e : modulo W z ≡ (r + 1) % 2 ^ W = ap (modulo W) (sym (suc-pred z)) ∙ modulo-suc (predℤ z) in
       let f : r + 1 + (2 ^ W - 1) ≡ r + 2 ^ W = omega (arith, some) in
       sym
-      (ap (λ (x : ℕ). (x + (2 ^ W - 1)) % 2 ^ W) e ∙ mod-add-mod (r + 1) (2 ^ W) (2 ^ W - 1) ∙ ap (λ (x : ℕ). x % 2 ^ W) f
+      (ap (λ (x : ℕ). (x + (2 ^ W - 1)) % 2 ^ W) e ∙ mod-add-mod (r + 1) (2 ^ W) (2 ^ W - 1)
+      ∙ ap (λ (x : ℕ). x % 2 ^ W) f
       ∙ add-mod-right r (2 ^ W) ∙ mod-eq-of-lt (modulo-lt (predℤ z)))
 
   -- k more of the second summand
   more : (a b k : ℕ) → ((a + b) % 2 ^ W + k) % 2 ^ W ≡ (a + (b + k) % 2 ^ W) % 2 ^ W
-  more a b k = mod-add-mod (a + b) (2 ^ W) k ∙ ap (λ (x : ℕ). x % 2 ^ W) (add-assoc a b k) ∙ sym (add-mod-mod a (b + k) (2 ^ W))
+  more a b k =
+      mod-add-mod (a + b) (2 ^ W) k ∙ ap (λ (x : ℕ). x % 2 ^ W) (add-assoc a b k)
+      ∙ sym (add-mod-mod a (b + k) (2 ^ W))
 
-  up : (a b : ℤ) → modulo W (a +ℤ b) ≡ (modulo W a + modulo W b) % 2 ^ W → modulo W (a +ℤ sucℤ b) ≡ (modulo W a + modulo W (sucℤ b)) % 2 ^ W
+  up : (a b : ℤ) → modulo W (a +ℤ b) ≡ (modulo W a + modulo W b) % 2 ^ W
+      → modulo W (a +ℤ sucℤ b) ≡ (modulo W a + modulo W (sucℤ b)) % 2 ^ W
   up a b h =
-      ap (modulo W) (+ℤ-sucℤ a b) ∙ modulo-suc (a +ℤ b) ∙ ap (λ (x : ℕ). (x + 1) % 2 ^ W) h ∙ more (modulo W a) (modulo W b) 1
+      ap (modulo W) (+ℤ-sucℤ a b) ∙ modulo-suc (a +ℤ b) ∙ ap (λ (x : ℕ). (x + 1) % 2 ^ W) h
+      ∙ more (modulo W a) (modulo W b) 1
       ∙ ap (λ (x : ℕ). (modulo W a + x) % 2 ^ W) (sym (modulo-suc b))
 
-  down : (a b : ℤ) → modulo W (a +ℤ b) ≡ (modulo W a + modulo W b) % 2 ^ W → modulo W (a +ℤ predℤ b) ≡ (modulo W a + modulo W (predℤ b)) % 2 ^ W
+  down : (a b : ℤ) → modulo W (a +ℤ b) ≡ (modulo W a + modulo W b) % 2 ^ W
+      → modulo W (a +ℤ predℤ b) ≡ (modulo W a + modulo W (predℤ b)) % 2 ^ W
   down a b h =
       ap (modulo W) (+ℤ-predℤ a b) ∙ modulo-pred (a +ℤ b) ∙ ap (λ (x : ℕ). (x + (2 ^ W - 1)) % 2 ^ W) h
       ∙ more (modulo W a) (modulo W b) (2 ^ W - 1) ∙ ap (λ (x : ℕ). (modulo W a + x) % 2 ^ W) (sym (modulo-pred b))
@@ -74,7 +83,9 @@ module _ (W : ℕ) where
   unfolding modulo
   none-more a =
       ap (modulo W) (+ℤ-idr a)
-      ∙ sym (ap (λ (x : ℕ). (modulo W a + x) % 2 ^ W) (zero-mod (2 ^ W)) ∙ ap (λ (x : ℕ). x % 2 ^ W) (omega arith) ∙ mod-eq-of-lt (modulo-lt a))
+      ∙ sym
+      (ap (λ (x : ℕ). (modulo W a + x) % 2 ^ W) (zero-mod (2 ^ W)) ∙ ap (λ (x : ℕ). x % 2 ^ W) (omega arith)
+      ∙ mod-eq-of-lt (modulo-lt a))
 
   -- a sum's remainder is the wrapped sum of the remainders
   pub modulo-add : (a b : ℤ) → modulo W (a +ℤ b) ≡ (modulo W a + modulo W b) % 2 ^ W

@@ -1,4 +1,5 @@
-// Signed numbers of 32 bits: zigzag, and kept as unsigned ones that wrap. Their laws stand in specs/, over the width W.
+// Signed numbers of 32 bits: zigzag, and kept as unsigned ones that wrap. Their laws stand in specs/, over
+// the width W.
 pub mod magnitudes;
 pub mod wrapping;
 pub mod zigzag;

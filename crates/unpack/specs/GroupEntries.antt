@@ -10,7 +10,8 @@ use Rattle.vertical_turn.specs.ColumnThereAndBack.{next-group-entries}
 
 -- the entries of the groups up to g are in their places, and those of group g are put behind them
 pub next-entries : (l words : List ℕ) (w n g : ℕ) → 64 * g < n → n ≤ length l
-    → put (put l 0 (tabulate (min (64 * g) n) (entry words w))) (64 * g) (tabulate (min 64 (n - 64 * g)) (lane words (g * w) w))
+    → put (put l 0 (tabulate (min (64 * g) n) (entry words w))) (64 * g)
+    (tabulate (min 64 (n - 64 * g)) (lane words (g * w) w))
     ≡ put l 0 (tabulate (min (64 * (g + 1)) n) (entry words w))
 next-entries l words w n g h room =
     let m = min 64 (n - 64 * g) in

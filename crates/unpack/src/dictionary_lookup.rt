@@ -27,7 +27,9 @@ fn fill(places: &mut [i32], m: usize, value: i32)
 // The values of the first m indexes of a list, into the first m places.
 fn look_up(dict: &[u8], indexes: &[u32], m: usize, places: &mut [i32])
     requires { ⌜ (length (now dict) % 4 ≡ 0) × (m ≤ length (now indexes)) × (m ≤ length (now places)) ⌝ }
-    ensures { λ _. ⌜ now (places .exit) ≡ put (now (places .entry)) 0 (tabulate m (λ k. value (now (dict .entry)) (getD (now (indexes .entry)) k 0))) ⌝ }
+    ensures { λ _. ⌜ now (places .exit)
+        ≡ put (now (places .entry)) 0
+        (tabulate m (λ k. value (now (dict .entry)) (getD (now (indexes .entry)) k 0))) ⌝ }
 {
     let mut i: usize = 0;
     while i < m {
@@ -39,12 +41,14 @@ fn look_up(dict: &[u8], indexes: &[u32], m: usize, places: &mut [i32])
 // A repeated run: m times the value of one index, into the places from place p on.
 fn place_same(dict: &[u8], index: u32, entries: &mut [i32], p: usize, m: usize)
     requires { ⌜ (length (now dict) % 4 ≡ 0) × (p + m ≤ length (now entries)) ⌝ }
-    ensures { λ _. ⌜ now (entries .exit) ≡ put (now (entries .entry)) p (tabulate m (λ _. value (now (dict .entry)) index)) ⌝ }
+    ensures { λ _. ⌜ now (entries .exit)
+        ≡ put (now (entries .entry)) p (tabulate m (λ _. value (now (dict .entry)) index)) ⌝ }
 {
     fill(&mut entries[p..], m, value_any(dict, index));
 }
 
-// At most 64 packed indexes from byte `from` on, unpacked by groups: their values, into the places from place p on.
+// At most 64 packed indexes from byte `from` on, unpacked by groups: their values, into the places from
+// place p on.
 fn place_part(
     dict: &[u8],
     page: &[u8],
@@ -54,15 +58,20 @@ fn place_part(
     p: usize,
     m: usize,
 )
-    requires { ⌜ (length (now dict) % 4 ≡ 0) × (w ≤ 32) × (m ≤ 64) × (from + ceil (m * w) 8 ≤ length (now page)) × (p + m ≤ length (now entries)) ⌝ }
-    ensures { λ _. ⌜ now (entries .exit) ≡ put (now (entries .entry)) p (tabulate m (λ k. value (now (dict .entry)) (field lowFirst (now (page .entry)) (8 * from + k * w) w))) ⌝ }
+    requires { ⌜ (length (now dict) % 4 ≡ 0) × (w ≤ 32) × (m ≤ 64)
+        × (from + ceil (m * w) 8 ≤ length (now page)) × (p + m ≤ length (now entries)) ⌝ }
+    ensures { λ _. ⌜ now (entries .exit)
+        ≡ put (now (entries .entry)) p
+        (tabulate m
+        (λ k. value (now (dict .entry)) (field lowFirst (now (page .entry)) (8 * from + k * w) w))) ⌝ }
 {
     let mut indexes = [0u32; 64];
     unpack(&page[from..], w, m, &mut indexes);
     look_up(dict, &indexes, m, &mut entries[p..]);
 }
 
-// A packed run, whose body begins at byte `start`: the values of its first m indexes, into the places from place p on.
+// A packed run, whose body begins at byte `start`: the values of its first m indexes, into the places from
+// place p on.
 fn place_body(
     dict: &[u8],
     page: &[u8],
@@ -72,8 +81,12 @@ fn place_body(
     p: usize,
     m: usize,
 )
-    requires { ⌜ (length (now dict) % 4 ≡ 0) × (w ≤ 32) × (m ≤ 16384) × (start + ceil (m * w) 8 ≤ length (now page)) × (p + m ≤ length (now entries)) ⌝ }
-    ensures { λ _. ⌜ now (entries .exit) ≡ put (now (entries .entry)) p (tabulate m (λ k. value (now (dict .entry)) (field lowFirst (now (page .entry)) (8 * start + k * w) w))) ⌝ }
+    requires { ⌜ (length (now dict) % 4 ≡ 0) × (w ≤ 32) × (m ≤ 16384)
+        × (start + ceil (m * w) 8 ≤ length (now page)) × (p + m ≤ length (now entries)) ⌝ }
+    ensures { λ _. ⌜ now (entries .exit)
+        ≡ put (now (entries .entry)) p
+        (tabulate m
+        (λ k. value (now (dict .entry)) (field lowFirst (now (page .entry)) (8 * start + k * w) w))) ⌝ }
 {
     let mut i: usize = 0;
     let mut from = start;
@@ -88,7 +101,8 @@ fn place_body(
 // All runs, in turn; a fault ends the pass.
 pub fn look_up_runs(dict: &[u8], page: &[u8], w: u32, n: usize, entries: &mut [i32])
     requires { ⌜ (length (now dict) % 4 ≡ 0) × (w ≤ 32) × (n ≤ 16384) × (n ≤ length (now entries)) ⌝ }
-    ensures { λ _. ⌜ now (entries .exit) ≡ placed (value (now (dict .entry))) w n (now (page .entry)) (now (entries .entry)) ⌝ }
+    ensures { λ _. ⌜ now (entries .exit)
+        ≡ placed (value (now (dict .entry))) w n (now (page .entry)) (now (entries .entry)) ⌝ }
 {
     let mut at: usize = 0;
     let mut i: usize = 0;

@@ -32,8 +32,11 @@ fn place_same(entries: &mut [u32], p: usize, m: usize, value: u32)
 
 // The first m entries of the packed run whose body begins at byte `start`, into the places from place p on.
 fn place_body(page: &[u8], start: usize, w: u32, m: usize, entries: &mut [u32], p: usize)
-    requires { ⌜ (w ≤ 32) × (m ≤ 16384) × (start + ceil (m * w) 8 ≤ length (now page)) × (p + m ≤ length (now entries)) ⌝ }
-    ensures { λ _. ⌜ now (entries .exit) ≡ put (now (entries .entry)) p (tabulate m (λ k. field lowFirst (now (page .entry)) (8 * start + k * w) w)) ⌝ }
+    requires { ⌜ (w ≤ 32) × (m ≤ 16384) × (start + ceil (m * w) 8 ≤ length (now page))
+        × (p + m ≤ length (now entries)) ⌝ }
+    ensures { λ _. ⌜ now (entries .exit)
+        ≡ put (now (entries .entry)) p
+        (tabulate m (λ k. field lowFirst (now (page .entry)) (8 * start + k * w) w)) ⌝ }
 {
     unpack(&page[start..], w, m, &mut entries[p..]);
 }
@@ -41,7 +44,8 @@ fn place_body(page: &[u8], start: usize, w: u32, m: usize, entries: &mut [u32], 
 // All runs, in turn; a fault ends the pass.
 pub fn place_runs(page: &[u8], w: u32, n: usize, entries: &mut [u32])
     requires { ⌜ (w ≤ 32) × (n ≤ 16384) × (n ≤ length (now entries)) ⌝ }
-    ensures { λ _. ⌜ now (entries .exit) ≡ placed (λ x. x) w n (now (page .entry)) (now (entries .entry)) ⌝ }
+    ensures { λ _. ⌜ now (entries .exit)
+        ≡ placed (λ x. x) w n (now (page .entry)) (now (entries .entry)) ⌝ }
 {
     let mut at: usize = 0;
     let mut i: usize = 0;

@@ -13,7 +13,8 @@ use Rattle.rules.proofs.Number.{the-type}
 
 module _ {A : Type 0} (refuse : ℕ → A) (onward : ℕ → ℕ → A) where
   -- what both refusals give, and what goes on from every number that may stand there
-  pub by-field : (P : A → Type 0) (n : Number) → P (refuse 5) → P (refuse 9) → ((v next : ℕ) → n ≡ Read v next → P (onward v next)) → P (reading refuse n onward)
+  pub by-field : (P : A → Type 0) (n : Number) → P (refuse 5) → P (refuse 9)
+      → ((v next : ℕ) → n ≡ Read v next → P (onward v next)) → P (reading refuse n onward)
   unfolding reading
   by-field P (Read v next) ended beyond read = read v next refl
   by-field P Ended ended beyond read = ended
@@ -25,7 +26,8 @@ module _ {A : Type 0} (refuse : ℕ → A) (onward : ℕ → ℕ → A) where
   by-read e on = on ∙ ap (λ m. reading refuse m onward) (sym e)
 
   -- none was read: the match took neither value nor place
-  pub by-refusal : (n : Number) {m : Number} {code : ℕ} → OneOf (1 ∷ 2 ∷ []) (tagOf the-type n) → n ≡ m → code ≡ numberFault n → refuse code ≡ reading refuse m onward
+  pub by-refusal : (n : Number) {m : Number} {code : ℕ} → OneOf (1 ∷ 2 ∷ []) (tagOf the-type n) → n ≡ m
+      → code ≡ numberFault n → refuse code ≡ reading refuse m onward
   unfolding reading
   by-refusal n tag e code = ap refuse code ∙ go n tag ∙ ap (λ m. reading refuse m onward) e
     where

@@ -32,23 +32,32 @@ pub found-at : (W : ℕ) (page : List ℕ) (at v next : ℕ) → numberAt W page
 unfolding numberAt
 found-at W page at v next e = go (uleb (topOf W) (furtherOf W) (drop at page)) refl e
   where
-    go : (n : Number) → uleb (topOf W) (furtherOf W) (drop at page) ≡ n → moved at n ≡ Read v next → SpeltAt W page at v next
+    go : (n : Number) → uleb (topOf W) (furtherOf W) (drop at page) ≡ n → moved at n ≡ Read v next
+        → SpeltAt W page at v next
     go (Read x u) q e′ =
         let p : x ≡ v = cc in
         let low : topOf W ≤ 128 = pow-mono {i = W - 7 * furtherOf W} {j = 7} (omega arith) in
-        record { used = u; there = cc; spelt = rw p at (found (topOf W) (furtherOf W) (pow-pos (W - 7 * furtherOf W)) low (drop at page) x u q) }
+        record {
+          used = u;
+          there = cc;
+          spelt = rw p at
+              (found (topOf W) (furtherOf W) (pow-pos (W - 7 * furtherOf W)) low (drop at page) x u q);
+        }
     go Ended q e′ = let z : _≡_ {A = ℕ} 0 1 = cc in absurd (omega arith)
     go Beyond q e′ = let z : _≡_ {A = ℕ} 0 1 = cc in absurd (omega arith)
 
 -- every spelling at a place is found that is short enough, of a number of W bits
-pub finds-at : (W : ℕ) (page : List ℕ) (at : ℕ) {t : List ℕ} {v : ℕ} (s : List ℕ) → drop at page ≡ t ++ s → Spells t v → length t ≤ suc (furtherOf W) → v < 2 ^ W
+pub finds-at : (W : ℕ) (page : List ℕ) (at : ℕ) {t : List ℕ} {v : ℕ} (s : List ℕ) → drop at page ≡ t ++ s
+    → Spells t v → length t ≤ suc (furtherOf W) → v < 2 ^ W
     → numberAt W page at ≡ Read v (at + length t)
 unfolding numberAt
 finds-at W page at s e p l h =
-    ap (λ (r : List ℕ). moved at (uleb (topOf W) (furtherOf W) r)) e ∙ ap (moved at) (finds (topOf W) (furtherOf W) s p l (rw bound-width h))
+    ap (λ (r : List ℕ). moved at (uleb (topOf W) (furtherOf W) r)) e
+    ∙ ap (moved at) (finds (topOf W) (furtherOf W) s p l (rw bound-width h))
 
 -- the next place is on the page and behind this one, and the number has W bits
-pub next-within : (W : ℕ) (page : List ℕ) (at v next : ℕ) → numberAt W page at ≡ Read v next → (next ≤ length page) × (v < 2 ^ W) × (at < next)
+pub next-within : (W : ℕ) (page : List ℕ) (at v next : ℕ) → numberAt W page at ≡ Read v next
+    → (next ≤ length page) × (v < 2 ^ W) × (at < next)
 next-within W page at v next e =
     let f = found-at W page at v next e in
     let l = length-drop at page in

@@ -1,4 +1,5 @@
--- What a reader of a variable-length number finds: spellings that are short and small enough, and every one of them. At most k bytes follow the first.
+-- What a reader of a variable-length number finds: spellings that are short and small enough, and every one of
+-- them. At most k bytes follow the first.
 use mathlib.Core.Path.{_≡_, refl, ap}
 use mathlib.Core.Bool.{Bool, true, false, cond}
 use mathlib.Core.List.{List, [], _∷_, _++_}
@@ -30,7 +31,8 @@ pub record Spelt (top k : ℕ) (s : List ℕ) (v used : ℕ) : Type 0 where
   pub small : v < bound top k
 
 -- nothing but spellings is found
-pub found : (top k : ℕ) → 0 < top → top ≤ 128 → (s : List ℕ) (v used : ℕ) → uleb top k s ≡ Read v used → Spelt top k s v used
+pub found : (top k : ℕ) → 0 < top → top ≤ 128 → (s : List ℕ) (v used : ℕ) → uleb top k s ≡ Read v used
+    → Spelt top k s v used
 found top zero some low [] v used e = let z : _≡_ {A = ℕ} 0 1 = cc in absurd (omega arith)
 found top (suc k) some low [] v used e = let z : _≡_ {A = ℕ} 0 1 = cc in absurd (omega arith)
 found top zero some low (b ∷ s) v used e = go (ltb b top) refl e
@@ -40,7 +42,9 @@ found top zero some low (b ∷ s) v used e = go (ltb b top) refl e
         let p : b ≡ v = cc in
         let r : 1 ≡ used = cc in
         let l = ltb-true b top h in
-        rw (← p, ← r) (record { spells = last {b = b} (omega arith); short = omega arith; within = omega arith; small = omega arith })
+        rw (← p, ← r)
+        (record
+        { spells = last {b = b} (omega arith); short = omega arith; within = omega arith; small = omega arith })
     go false h q = let z : _≡_ {A = ℕ} 0 1 = cc in absurd (omega arith)
 found top (suc k) some low (b ∷ s) v used e = go (found top k some low s) (ltb b 128) refl e
   where
@@ -50,7 +54,8 @@ found top (suc k) some low (b ∷ s) v used e = go (found top k some low s) (ltb
         let p : b % 128 + 128 * x ≡ v = cc in
         let r : suc u ≡ used = cc in
         let i = rest x u q in
-        rw (← p, ← r) (record { spells = more h (i .spells); short = omega arith; within = omega arith; small = omega arith })
+        rw (← p, ← r)
+        (record { spells = more h (i .spells); short = omega arith; within = omega arith; small = omega arith })
     after rest h Ended q e′ = let z : _≡_ {A = ℕ} 0 1 = cc in absurd (omega arith)
     after rest h Beyond q e′ = let z : _≡_ {A = ℕ} 0 1 = cc in absurd (omega arith)
 
@@ -60,21 +65,24 @@ found top (suc k) some low (b ∷ s) v used e = go (found top k some low s) (ltb
         let p : b ≡ v = cc in
         let r : 1 ≡ used = cc in
         let l = ltb-true b 128 h in
-        rw (← p, ← r) (record { spells = last {b = b} l; short = omega arith; within = omega arith; small = omega (arith, some-bound top k some) })
+        rw (← p, ← r)
+        (record {
+          spells = last {b = b} l;
+          short = omega arith;
+          within = omega arith;
+          small = omega
+              (arith, some-bound top k some);
+        })
     go rest false h q = after rest (ltb-false b 128 h) (uleb top k s) refl q
 
 -- and every spelling is found that is short and small enough
-pub finds : (top k : ℕ) {t : List ℕ} {v : ℕ} (s : List ℕ) → Spells t v → length t ≤ suc k → v < bound top k → uleb top k (t ++ s) ≡ Read v (length t)
+pub finds : (top k : ℕ) {t : List ℕ} {v : ℕ} (s : List ℕ) → Spells t v → length t ≤ suc k → v < bound top k
+    → uleb top k (t ++ s) ≡ Read v (length t)
 finds top zero s (last {b} h) l m = rw (lt-ltb b top (omega arith))
 finds top (suc k) s (last {b} h) l m = rw (lt-ltb b 128 h)
 finds top zero s (more {b} h (last _)) l m = absurd (omega arith)
 finds top zero s (more {b} h (more _ _)) l m = absurd (omega arith)
 finds top (suc k) s (more {b} h r) l m = rw (le-ltb b 128 h, finds top k s r (omega arith) (omega arith))
-
--- longer spellings of a small number are accepted: they read the same
-pub spelt-same : (top k : ℕ) {t u : List ℕ} {v : ℕ} (s : List ℕ) → Spells t v → Spells u v → length t ≤ suc k → length u ≤ suc k → v < bound top k
-    → (uleb top k (t ++ s) ≡ Read v (length t)) × (uleb top k (u ++ s) ≡ Read v (length u))
-spelt-same top k s p q l m h = (finds top k s p l h, finds top k s q m h)
 
 -- the same bytes spell one number only
 pub one-way : {t : List ℕ} {v u : ℕ} → Spells t v → Spells t u → v ≡ u

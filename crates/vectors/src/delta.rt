@@ -1,4 +1,5 @@
-// Delta pages: Parquet's two examples in blocks of 128 with 4 miniblocks, and with their own block size of 8, which is refused; pages that other writers may write.
+// Delta pages: Parquet's two examples in blocks of 128 with 4 miniblocks, and with their own block size of
+// 8, which is refused; pages that other writers may write.
 use crate::topic;
 use lines::Line;
 use unpack::delta::unpack;

@@ -1,4 +1,5 @@
-// Dictionary columns: document 01's example, with the value 310 and without it, and what other writers may write.
+// Dictionary columns: document 01's example, with the value 310 and without it, and what other writers may
+// write.
 use crate::topic;
 use lines::Line;
 use unpack::dictionary::unpack;

@@ -1,4 +1,5 @@
-// Published vectors, run through the proved functions and compared: document 01's examples that are not in the proved table, and Parquet's own.
+// Published vectors, run through the proved functions and compared: document 01's examples that are not in
+// the proved table, and Parquet's own.
 mod delta;
 mod dictionary;
 mod horizontal;
@@ -15,11 +16,7 @@ fn main() {
     Line::new()
         .words(b"Published vectors: what was asked, what the proved function gave")
         .end();
-    if horizontal_pages::shown()
-        & run_streams::shown()
-        & delta_pages::shown()
-        & dictionary_columns::shown()
-    {
+    if horizontal::shown() & runs::shown() & delta::shown() & dictionary::shown() {
         topic(b"Every answer is as published.");
     } else {
         topic(b"NOT every answer is as published.");

@@ -34,8 +34,10 @@ tells-same : (x y : ℕ) → Tells (eqb x y) (x ≡ y)
 tells-same x y = (eqb-true x y, eq-eqb x y)
 
 -- what is told, by its three tests
-pub tells-read : {A : Type 0} (answer : Answer) (places entries : List A) {told counted begun : Bool} → told ≡ (counted && begun)
-    → counted ≡ (eqb (answer .code) 0 && eqb (answer .number) (length entries)) → Tells begun (Begins places entries) → Tells told (Read answer places entries)
+pub tells-read : {A : Type 0} (answer : Answer) (places entries : List A) {told counted begun : Bool}
+    → told ≡ (counted && begun)
+    → counted ≡ (eqb (answer .code) 0 && eqb (answer .number) (length entries))
+    → Tells begun (Begins places entries) → Tells told (Read answer places entries)
 tells-read answer places entries t c b =
     rw (t, c) (tells-all _ _ _ (tells-same (answer .code) 0) (tells-same (answer .number) (length entries)) b)
 
@@ -47,7 +49,8 @@ module _ {A : Type 0} (d : A) (list front : List A) where
   pub begins-all : length front ≤ length list → Alike (length front) → Begins list front
   begins-all fits alike =
       let long = length-take-le (length front) list fits in
-      ext-getD d (take (length front) list) front long (λ k h. let l : k < length front = omega arith in rw getD-take (alike k l))
+      ext-getD d (take (length front) list) front long
+      (λ k h. let l : k < length front = omega arith in rw getD-take (alike k l))
 
   pub begins-not-short : length list < length front → Begins list front → ⊥
   begins-not-short short e = omega (arith, ap (λ (l : List A). length l) e, length-take (length front) list)

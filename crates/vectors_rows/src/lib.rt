@@ -1,4 +1,5 @@
-// Rows of a table of vectors: what was asked, what came of it, and a word at the end where that is not as published.
+// Rows of a table of vectors: what was asked, what came of it, and a word at the end where that is not as
+// published.
 pub mod signed_entries;
 
 ghost use mathlib.Core.Path.{_≡_};

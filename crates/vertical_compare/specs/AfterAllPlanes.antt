@@ -44,7 +44,8 @@ module _ (n : ℕ) (planes : List ℕ) (w : ℕ) where
 
   -- not below the low end, and below the high end or equal to it
   pub ends-between : (low high : ℤ)
-      → bitAnd (2 ^ n - 1 - endAt n planes w 0 low .less) (bitOr (endAt n planes w 0 high .less) (endAt n planes w 0 high .undecided))
+      → bitAnd (2 ^ n - 1 - endAt n planes w 0 low .less)
+      (bitOr (endAt n planes w 0 high .less) (endAt n planes w 0 high .undecided))
       ≡ word n (λ j. between low high (pos (lane planes 0 w j)))
   unfolding between
   ends-between low high =

@@ -28,12 +28,14 @@ module _ (n : ℕ) (planes : List ℕ) (w : ℕ) where
   start-below (pos c) e = absurd (omega (arith, ltb-true c 0 e))
   start-below (negsuc c) e = rw (word-none n)
 
-  pub start-within : (z : ℤ) → ltZ z (pos 0) ≡ false → natAbs z / 2 ^ w ≡ 0 → endOf (natAbs z) 0 (2 ^ n - 1) ≡ endAt n planes 0 w z
+  pub start-within : (z : ℤ) → ltZ z (pos 0) ≡ false → natAbs z / 2 ^ w ≡ 0
+      → endOf (natAbs z) 0 (2 ^ n - 1) ≡ endAt n planes 0 w z
   unfolding endAt lane
   start-within (pos c) e f = rw (f, word-none n, word-all n)
   start-within (negsuc c) e f = absurd (true≢false e)
 
-  pub start-above : (z : ℤ) → ltZ z (pos 0) ≡ false → (natAbs z / 2 ^ w ≡ 0 → ⊥) → endOf (natAbs z) (2 ^ n - 1) 0 ≡ endAt n planes 0 w z
+  pub start-above : (z : ℤ) → ltZ z (pos 0) ≡ false → (natAbs z / 2 ^ w ≡ 0 → ⊥)
+      → endOf (natAbs z) (2 ^ n - 1) 0 ≡ endAt n planes 0 w z
   unfolding endAt lane
   start-above (pos c) e f =
       let some : ltb 0 (c / 2 ^ w) ≡ true = lt-ltb 0 (c / 2 ^ w) (omega arith) in

@@ -24,8 +24,12 @@ order x y = go (ltb x y) refl (eqb x y) refl
 -- x with the digit b behind it against y, by x against the digits of y above its last, and by that last one
 abbrev pub Digit : ℕ → ℕ → ℕ → Type 0
 Digit x y b =
-    (y % 2 ≡ 1 → (max (flag (ltb x (y / 2))) (min (flag (eqb x (y / 2))) (1 - b)) ≡ flag (ltb (x * 2 + b) y)) × (min (flag (eqb x (y / 2))) b ≡ flag (eqb (x * 2 + b) y)))
-    × (y % 2 ≡ 0 → (flag (ltb x (y / 2)) ≡ flag (ltb (x * 2 + b) y)) × (min (flag (eqb x (y / 2))) (1 - b) ≡ flag (eqb (x * 2 + b) y)))
+    (y % 2 ≡ 1
+    → (max (flag (ltb x (y / 2))) (min (flag (eqb x (y / 2))) (1 - b)) ≡ flag (ltb (x * 2 + b) y))
+    × (min (flag (eqb x (y / 2))) b ≡ flag (eqb (x * 2 + b) y)))
+    × (y % 2 ≡ 0
+    → (flag (ltb x (y / 2)) ≡ flag (ltb (x * 2 + b) y))
+    × (min (flag (eqb x (y / 2))) (1 - b) ≡ flag (eqb (x * 2 + b) y)))
 
 pub digit : (x y b : ℕ) → b < 2 → Digit x y b
 digit x y b small = go (order x (y / 2)) (order (x * 2 + b) y)

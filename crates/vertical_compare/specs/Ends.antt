@@ -23,7 +23,8 @@ bitsOf (negsuc c) = 0
 abbrev pub endOf : ℕ → ℕ → ℕ → End
 endOf constant less undecided = record { constant = constant; less = less; undecided = undecided }
 
--- after i planes of n lanes, with `left` planes to come: a lane's planes so far against as many of the constant's highest bits
+-- after i planes of n lanes, with `left` planes to come: a lane's planes so far against as many of the constant's
+-- highest bits
 unfoldable pub endAt : ℕ → List ℕ → ℕ → ℕ → ℤ → End
 endAt n planes i left c =
     endOf (bitsOf c)
@@ -34,5 +35,6 @@ endAt n planes i left c =
 unfoldable pub stepped : ℕ → End → ℕ → ℕ → End
 stepped n end plane left =
     cond (eqb (bit (end .constant) left) 1)
-    (endOf (end .constant) (bitOr (end .less) (bitAnd (end .undecided) (2 ^ n - 1 - plane))) (bitAnd (end .undecided) plane))
+    (endOf (end .constant) (bitOr (end .less) (bitAnd (end .undecided) (2 ^ n - 1 - plane)))
+    (bitAnd (end .undecided) plane))
     (endOf (end .constant) (end .less) (bitAnd (end .undecided) (2 ^ n - 1 - plane)))

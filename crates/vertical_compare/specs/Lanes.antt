@@ -40,7 +40,8 @@ bit-lane ps at (suc w) j (suc k) h =
     ∙ ap (λ (i : ℕ). bit (getD ps (at + i) 0) j) place
 
 -- words that agree have the same lanes
-pub lane-ext : (ps qs : List ℕ) (a b w j : ℕ) → ((k : ℕ) → k < w → getD ps (a + k) 0 ≡ getD qs (b + k) 0) → lane ps a w j ≡ lane qs b w j
+pub lane-ext : (ps qs : List ℕ) (a b w j : ℕ) → ((k : ℕ) → k < w → getD ps (a + k) 0 ≡ getD qs (b + k) 0)
+    → lane ps a w j ≡ lane qs b w j
 unfolding lane
 lane-ext ps qs a b zero j h = refl
 lane-ext ps qs a b (suc w) j h =
@@ -50,4 +51,5 @@ lane-ext ps qs a b (suc w) j h =
 pub lane-part : (words : List ℕ) (at w j : ℕ) → lane (take w (drop at words)) 0 w j ≡ lane words at w j
 lane-part words at w j =
     lane-ext (take w (drop at words)) words 0 at w j
-    (λ k l. getD-take w (drop at words) (0 + k) 0 (omega arith) ∙ getD-drop at words (0 + k) 0 ∙ ap (λ (i : ℕ). getD words (at + i) 0) (zero-add k))
+    (λ k l. getD-take w (drop at words) (0 + k) 0 (omega arith) ∙ getD-drop at words (0 + k) 0 ∙ ap
+    (λ (i : ℕ). getD words (at + i) 0) (zero-add k))

@@ -45,17 +45,22 @@ module _ (n : ℕ) (x : ℕ → ℕ) (p y : ℕ) (small : p < 2 ^ n) where
   less-zero even = word-of n _ (word-lt n _) (λ j l. rw (bit-word n _ j l) (next j .1 even .0))
 
   same-zero : y % 2 ≡ 0 → bitAnd equal (2 ^ n - 1 - p) ≡ word n (λ j. eqb (x j * 2 + bit p j) y)
-  same-zero even = word-of n _ (and-small (2 ^ n - 1 - p)) (λ j l. rw (bit-and, bit-not n j small l, bit-word n _ j l) (next j .1 even .1))
+  same-zero even =
+      word-of n _ (and-small (2 ^ n - 1 - p))
+      (λ j l. rw (bit-and, bit-not n j small l, bit-word n _ j l) (next j .1 even .1))
 
   step-both : (c left : ℕ) → y ≡ c / 2 ^ left
-      → stepped n (endOf c below equal) p left ≡ endOf c (word n (λ j. ltb (x j * 2 + bit p j) y)) (word n (λ j. eqb (x j * 2 + bit p j) y))
+      → stepped n (endOf c below equal) p left
+      ≡ endOf c (word n (λ j. ltb (x j * 2 + bit p j) y)) (word n (λ j. eqb (x j * 2 + bit p j) y))
   unfolding stepped bit
   step-both c left e = go (eqb (y % 2) 1) refl
     where
       go : (t : Bool) → eqb (y % 2) 1 ≡ t
-          → stepped n (endOf c below equal) p left ≡ endOf c (word n (λ j. ltb (x j * 2 + bit p j) y)) (word n (λ j. eqb (x j * 2 + bit p j) y))
+          → stepped n (endOf c below equal) p left
+          ≡ endOf c (word n (λ j. ltb (x j * 2 + bit p j) y)) (word n (λ j. eqb (x j * 2 + bit p j) y))
       go true f = let odd : y % 2 ≡ 1 = eqb-true (y % 2) 1 f in rw (← e, f, less-one odd, same-one odd)
-      go false f = let even : y % 2 ≡ 0 = omega (arith, eqb-false (y % 2) 1 f) in rw (← e, f, less-zero even, same-zero even)
+      go false f =
+          let even : y % 2 ≡ 0 = omega (arith, eqb-false (y % 2) 1 f) in rw (← e, f, less-zero even, same-zero even)
 
 -- a negative constant stays decided
 step-none : (n p left : ℕ) → stepped n (endOf 0 0 0) p left ≡ endOf 0 0 0
@@ -67,7 +72,8 @@ pub end-next : (n : ℕ) (planes : List ℕ) (i left : ℕ) (z : ℤ) → getD p
     → stepped n (endAt n planes i (suc left) z) (getD planes i 0) left ≡ endAt n planes (suc i) left z
 unfolding endAt lane
 end-next n planes i left (pos c) small =
-    let half : c / 2 ^ suc left ≡ c / 2 ^ left / 2 = ap (λ (k : ℕ). c / 2 ^ k) (sym (add-one left)) ∙ sym (shr-shr c left 1) in
+    let half : c / 2 ^ suc left ≡ c / 2 ^ left / 2 =
+    ap (λ (k : ℕ). c / 2 ^ k) (sym (add-one left)) ∙ sym (shr-shr c left 1) in
     rw half (step-both n (lane planes 0 i) (getD planes i 0) (c / 2 ^ left) small c left refl ∙ rw (zero-add i))
 end-next n planes i left (negsuc c) small = rw (word-none n) (step-none n (getD planes i 0) left)
 
@@ -76,4 +82,6 @@ pub end-turn : (n : ℕ) (planes : List ℕ) (i left : ℕ) (z : ℤ) (end : End
     → end ≡ endAt n planes i left z → stepped n end (getD planes i 0) (left - 1) ≡ endAt n planes (i + 1) (left - 1) z
 end-turn n planes i left z end some small e =
     let more : left ≡ suc (left - 1) = omega arith in
-    rw (e, add-one i) (ap (λ (k : ℕ). stepped n (endAt n planes i k z) (getD planes i 0) (left - 1)) more ∙ end-next n planes i (left - 1) z small)
+    rw (e, add-one i)
+    (ap (λ (k : ℕ). stepped n (endAt n planes i k z) (getD planes i 0) (left - 1)) more
+    ∙ end-next n planes i (left - 1) z small)

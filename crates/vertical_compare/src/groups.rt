@@ -12,7 +12,9 @@ use crate::ends::step;
 // The lanes from low to high with both ends: the planes of one group in, the 64 bits out.
 pub fn compare_group(planes: &[u64], low: i64, high: i64) -> u64
     requires { ⌜ length (now planes) ≤ 32 ⌝ }
-    ensures { λ r. ⌜ r ≡ word 64 (λ j. between low high (pos (lane (now (planes .entry)) 0 (length (now (planes .entry))) j))) ⌝ }
+    ensures { λ r. ⌜ r
+        ≡ word 64
+        (λ j. between low high (pos (lane (now (planes .entry)) 0 (length (now (planes .entry))) j))) ⌝ }
 {
     let mut lower = start(low, planes.len());
     let mut upper = start(high, planes.len());

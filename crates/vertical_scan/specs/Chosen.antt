@@ -31,10 +31,12 @@ unfolding lanes64 banded
 lanes-inside words at w x band o e = rw o e
 
 pub lanes-outside : (words : List ℕ) (at w x : ℕ) (band : Band) → band .outside ≡ true
-    → x ≡ word 64 (λ j. between (band .low) (band .high) (pos (lane words at w j))) → 2 ^ 64 - 1 - x ≡ lanes64 words at w band
+    → x ≡ word 64 (λ j. between (band .low) (band .high) (pos (lane words at w j)))
+    → 2 ^ 64 - 1 - x ≡ lanes64 words at w band
 unfolding lanes64 banded
 lanes-outside words at w x band o e =
-    ap (λ (y : ℕ). 2 ^ 64 - 1 - y) e ∙ word-not 64 (λ j. between (band .low) (band .high) (pos (lane words at w j))) ∙ rw o
+    ap (λ (y : ℕ). 2 ^ 64 - 1 - y) e ∙ word-not 64 (λ j. between (band .low) (band .high) (pos (lane words at w j)))
+    ∙ rw o
 
 module _ (l words : List ℕ) (w : ℕ) (band : Band) where
   pub none-chosen : l ≡ put l 0 (chosen words (64 * 0) w band)
@@ -42,7 +44,8 @@ module _ (l words : List ℕ) (w : ℕ) (band : Band) where
   none-chosen = put-none l 0
 
   -- the first r lanes of group g are its entries
-  lanes-entries : (g r : ℕ) → r ≤ 64 → lanes64 words (g * w) w band % 2 ^ r ≡ word r (λ k. banded band (pos (entry words w (64 * g + k))))
+  lanes-entries : (g r : ℕ) → r ≤ 64
+      → lanes64 words (g * w) w band % 2 ^ r ≡ word r (λ k. banded band (pos (entry words w (64 * g + k))))
   unfolding lanes64
   lanes-entries g r h =
       word-mod r 64 (λ j. banded band (pos (lane words (g * w) w j))) h
@@ -50,9 +53,11 @@ module _ (l words : List ℕ) (w : ℕ) (band : Band) where
 
   -- group g's word, or the part of it that n reaches
   pub next-chosen : (g r x : ℕ) → r ≤ 64 → 8 * g + ceil r 8 ≤ length l → x ≡ lanes64 words (g * w) w band % 2 ^ r
-      → put (put l 0 (chosen words (64 * g) w band)) (8 * g) (bytes (ceil r 8) x) ≡ put l 0 (chosen words (64 * g + r) w band)
+      → put (put l 0 (chosen words (64 * g) w band)) (8 * g) (bytes (ceil r 8) x)
+      ≡ put l 0 (chosen words (64 * g + r) w band)
   unfolding chosen
-  next-chosen g r x small h e = next-word l g r x (λ i. banded band (pos (entry words w i))) h (e ∙ lanes-entries g r small)
+  next-chosen g r x small h e =
+      next-word l g r x (λ i. banded band (pos (entry words w i))) h (e ∙ lanes-entries g r small)
 
 pub lanes-lt : (words : List ℕ) (at w : ℕ) (band : Band) → lanes64 words at w band < 2 ^ 64
 unfolding lanes64

@@ -14,7 +14,8 @@ use Rattle.rules.specs.Vertical.{pageWords, unused, pageFault}
 use Rattle.answers.specs.Laws.{then-zero, not-faulty}
 
 -- its length is exact, and its unused lanes are 0
-pub good-column : (words : List ℕ) (w n : ℕ) → pageFault words w n ≡ 0 → (length words ≡ pageWords w n) × (unused words w n ≡ false)
+pub good-column : (words : List ℕ) (w n : ℕ) → pageFault words w n ≡ 0
+    → (length words ≡ pageWords w n) × (unused words w n ≡ false)
 unfolding pageFault
 good-column words w n e =
     let short = faulty (ltb (length words) (pageWords w n)) 5 in

@@ -32,7 +32,8 @@ positive (suc x) zero f g = absurd (omega (arith, f (omega arith)))
 positive (suc x) (suc y) f g = lt-ltb 0 (suc x) (omega arith) ∙ sym (lt-ltb 0 (suc y) (omega arith))
 
 -- a lane is 0 exactly where its bit is
-lane-positive : (words : List ℕ) (at w j : ℕ) → (0 < lane words at w j → 0 < bit (orTo words at w) j) × (0 < bit (orTo words at w) j → 0 < lane words at w j)
+lane-positive : (words : List ℕ) (at w j : ℕ)
+    → (0 < lane words at w j → 0 < bit (orTo words at w) j) × (0 < bit (orTo words at w) j → 0 < lane words at w j)
 unfolding lane orTo
 lane-positive words at zero j = (λ h. absurd (omega arith), λ h. absurd (omega (arith, bit-of-zero j)))
 lane-positive words at (suc w) j =
@@ -70,7 +71,8 @@ some-bits (suc m) x h =
   where
     parts : (b y x : ℕ) → b < 2 → x ≡ y * 2 + b → ltb 0 x ≡ (ltb 0 b || ltb 0 y)
     parts zero y x l e = positive x y (λ h. omega arith) (λ h. omega arith)
-    parts (suc b) y x l e = lt-ltb 0 x (omega arith) ∙ ap (λ (t : Bool). t || ltb 0 y) (sym (lt-ltb 0 (suc b) (omega arith)))
+    parts (suc b) y x l e =
+        lt-ltb 0 x (omega arith) ∙ ap (λ (t : Bool). t || ltb 0 y) (sym (lt-ltb 0 (suc b) (omega arith)))
 
 -- the group that n ends in: what is left of its words above n's lanes
 pub unused-rest : (words : List ℕ) (w n : ℕ) → ((k : ℕ) → getD words k 0 < 2 ^ 64) → (n % 64 ≡ 0 → ⊥)
@@ -82,7 +84,9 @@ unused-rest words w n h some =
     let size : 64 ≡ 64 - r + r = omega arith in
     let small : o / 2 ^ r < 2 ^ (64 - r) = shr-lt (64 - r) r (rw (← size) (or-small words (n / 64 * w) w h)) in
     some-bits (64 - r) (o / 2 ^ r) small
-    ∙ some-ext (64 - r) (λ k l. ap (ltb 0) (bit-shr o r k) ∙ sym (lane-or words (n / 64 * w) w (r + k)) ∙ ap₂ (λ (g j : ℕ). ltb 0 (lane words (g * w) w j)) (omega arith) (omega arith))
+    ∙ some-ext (64 - r)
+    (λ k l. ap (ltb 0) (bit-shr o r k) ∙ sym (lane-or words (n / 64 * w) w (r + k)) ∙ ap₂
+    (λ (g j : ℕ). ltb 0 (lane words (g * w) w j)) (omega arith) (omega arith))
     ∙ ap (λ (m : ℕ). someBelow m (λ k. ltb 0 (entry words w (n + k)))) left
 
 -- a full last group has none

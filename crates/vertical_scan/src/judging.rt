@@ -2,10 +2,8 @@
 ghost use mathlib.Core.Path.{_≡_};
 ghost use Prim.Native.Nat.{_≤_, _*_, _+_};
 ghost use lib.ListN.{length};
-ghost use Rattle.rules.specs.Answer.{_then_, roomFault};
 ghost use Rattle.rules.specs.Vertical.{pageFault};
 ghost use Rattle.vertical_scan.specs.UnusedLanes.{orTo};
-use answers::room_fault;
 
 // The w words from `at` on, put over each other: a lane is 0 where its bit is.
 fn all_planes(words: &[u64], at: usize, w: usize) -> u64
@@ -42,16 +40,4 @@ pub fn page_fault(words: &[u64], width: u32, n: usize) -> u32
         return 7;
     }
     0
-}
-
-// 4, where the output has fewer places than are needed, and then the column's faults.
-pub fn fault(words: &[u64], width: u32, n: usize, places: usize, need: usize) -> u32
-    requires { ⌜ (width ≤ 32) × (n ≤ 16384) ⌝ }
-    ensures { λ r. ⌜ r ≡ (roomFault places need then pageFault (now (words .entry)) width n) ⌝ }
-{
-    let room = room_fault(places, need);
-    if room != 0 {
-        return room;
-    }
-    page_fault(words, width, n)
 }

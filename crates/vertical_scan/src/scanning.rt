@@ -9,8 +9,10 @@ ghost use Rattle.rules.specs.Answer.Outcome.{outcome};
 ghost use Rattle.rules.specs.Vertical as Vertical;
 ghost use Rattle.compare.specs.Band.{banded};
 ghost use Rattle.vertical_scan.specs.Chosen.{chosen, lanes64};
-use crate::judging::fault;
+use crate::judging::page_fault;
+use answers::first_fault;
 use answers::refused;
+use answers::room_fault;
 use arguments::Arguments;
 use arguments::arguments_of;
 use bitmaps::counted;
@@ -37,7 +39,8 @@ fn group_bits(words: &[u64], w: usize, g: usize, band: Band) -> u64
 // The q groups that n fills, eight bytes each.
 fn select_full(words: &[u64], w: usize, q: usize, band: Band, bitmap: &mut [u8])
     requires { ⌜ (w ≤ 32) × (q ≤ 256) × (q * w ≤ length (now words)) × (8 * q ≤ length (now bitmap)) ⌝ }
-    ensures { λ _. ⌜ now (bitmap .exit) ≡ put (now (bitmap .entry)) 0 (chosen (now (words .entry)) (64 * q) w band) ⌝ }
+    ensures { λ _. ⌜ now (bitmap .exit)
+        ≡ put (now (bitmap .entry)) 0 (chosen (now (words .entry)) (64 * q) w band) ⌝ }
 {
     let mut g: usize = 0;
     while g < q {
@@ -48,8 +51,10 @@ fn select_full(words: &[u64], w: usize, q: usize, band: Band, bitmap: &mut [u8])
 
 // All n entries: of the group that n ends in only the bytes that it reaches.
 fn select(words: &[u64], w: usize, n: usize, band: Band, bitmap: &mut [u8])
-    requires { ⌜ (w ≤ 32) × (n ≤ 16384) × (length (now words) ≡ Vertical.pageWords w n) × (ceil n 8 ≤ length (now bitmap)) ⌝ }
-    ensures { λ _. ⌜ now (bitmap .exit) ≡ put (now (bitmap .entry)) 0 (chosen (now (words .entry)) n w band) ⌝ }
+    requires { ⌜ (w ≤ 32) × (n ≤ 16384) × (length (now words) ≡ Vertical.pageWords w n)
+        × (ceil n 8 ≤ length (now bitmap)) ⌝ }
+    ensures { λ _. ⌜ now (bitmap .exit)
+        ≡ put (now (bitmap .entry)) 0 (chosen (now (words .entry)) n w band) ⌝ }
 {
     let q = n / 64;
     select_full(words, w, q, band, bitmap);
@@ -64,9 +69,16 @@ fn select(words: &[u64], w: usize, n: usize, band: Band, bitmap: &mut [u8])
 // By its band: the room and the column are judged, then the bitmap is written and counted.
 fn scan_band(words: &[u64], width: u32, n: usize, band: Band, bitmap: &mut [u8]) -> Answer
     requires { ⌜ (width ≤ 32) × (n ≤ 16384) ⌝ }
-    ensures { λ r. ⌜ outcome r (now (bitmap .exit)) ≡ scanned (roomFault (length (now (bitmap .entry))) (ceil n 8) then Vertical.pageFault (now (words .entry)) width n) n (λ i. banded band (pos (Vertical.entry (now (words .entry)) width i))) (now (bitmap .entry)) ⌝ }
+    ensures { λ r. ⌜ outcome r (now (bitmap .exit))
+        ≡ scanned
+        (roomFault (length (now (bitmap .entry))) (ceil n 8)
+        then Vertical.pageFault (now (words .entry)) width n) n
+        (λ i. banded band (pos (Vertical.entry (now (words .entry)) width i))) (now (bitmap .entry)) ⌝ }
 {
-    let code = fault(words, width, n, bitmap.len(), (n + 7) / 8);
+    let code = first_fault(
+        room_fault(bitmap.len(), (n + 7) / 8),
+        page_fault(words, width, n),
+    );
     if code != 0 {
         return refused(code);
     }
@@ -83,7 +95,8 @@ pub fn scan(
     b: i64,
     bitmap: &mut [u8],
 ) -> Answer
-    ensures { λ r. ⌜ outcome r (now (bitmap .exit)) ≡ Vertical.scan (now (words .entry)) width n op a b (now (bitmap .entry)) ⌝ }
+    ensures { λ r. ⌜ outcome r (now (bitmap .exit))
+        ≡ Vertical.scan (now (words .entry)) width n op a b (now (bitmap .entry)) ⌝ }
 {
     let arguments = arguments_of(width, n, op, a, b);
     match arguments {

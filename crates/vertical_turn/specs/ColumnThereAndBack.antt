@@ -1,9 +1,11 @@
--- Whole columns of bit planes: packed entries unpacked are the entries, and a column's entries packed are the column, at every width, also 0.
+-- Whole columns of bit planes: packed entries unpacked are the entries, and a column's entries packed are the
+-- column, at every width, also 0.
 use mathlib.Core.Path.{_≡_, sym, ap, ap₂, _∙_}
 use mathlib.Core.Bool.{false}
 use mathlib.Core.List.{List}
 use Prim.Native.Nat.{ℕ, zero, suc, _+_, _-_, _*_, _/_, _%_, _≤_, _<_}
-use native.Mathlib.Nat.{not-suc-le-zero, add-zero, mul-zero, mod-lt, mod-eq-of-lt, div-eq-of-lt, div-lt-iff-lt-mul, div-add-mod', mul-add-div-right, mul-add-mod-self-right, mul-le-mul-right, suc-mul}
+use native.Mathlib.Nat.{not-suc-le-zero, add-zero, mul-zero, mod-lt, mod-eq-of-lt, div-eq-of-lt, div-lt-iff-lt-mul}
+use native.Mathlib.Nat.{div-add-mod', mul-add-div-right, mul-add-mod-self-right, mul-le-mul-right, suc-mul}
 use native.Mathlib.Omega.{arith}
 use lib.Dec.{ltb}
 use lib.ListN.{length, getD, List·getD-eq-default}
@@ -23,7 +25,8 @@ use Rattle.vertical_turn.specs.GroupThereAndBack.{lane-planes, plane-lan
 -- entries of a column are never too large
 pub entries-small : (w n : ℕ) (words : List ℕ) → anyLarge w (tabulate n (entry words w)) ≡ false
 entries-small w n words =
-    large-of w (tabulate n (entry words w)) (small-tabulate w n (entry words w) (λ i. lane-lt words (i / 64 * w) w (i % 64)))
+    large-of w (tabulate n (entry words w))
+    (small-tabulate w n (entry words w) (λ i. lane-lt words (i / 64 * w) w (i % 64)))
 
 -- ---- the words of a column, group by group
 
@@ -51,20 +54,24 @@ place-of : (w g k : ℕ) → k < w → (g * w + k) % w ≡ k
 place-of w g k h = mul-add-mod-self-right g w k ∙ mod-eq-of-lt h
 
 -- it is the group's plane k
-pub getD-packed : (w : ℕ) (xs : List ℕ) (g k : ℕ) → g < ceil (length xs) 64 → k < w → getD (packed w xs) (g * w + k) 0 ≡ plane w xs g k
+pub getD-packed : (w : ℕ) (xs : List ℕ) (g k : ℕ) → g < ceil (length xs) 64 → k < w
+    → getD (packed w xs) (g * w + k) 0 ≡ plane w xs g k
 unfolding packed
 getD-packed w xs g k hg hk =
     let n : ℕ = ceil (length xs) 64 in
     let room : suc g * w ≤ n * w = mul-le-mul-right w hg in
     let within : g * w + k < n * w = omega (arith, suc-mul g w) in
-    getD-tabulate (n * w) (λ i. plane w xs (i / w) (i % w)) (g * w + k) 0 within ∙ ap₂ (plane w xs) (group-of w g k hk) (place-of w g k hk)
+    getD-tabulate (n * w) (λ i. plane w xs (i / w) (i % w)) (g * w + k) 0 within
+    ∙ ap₂ (plane w xs) (group-of w g k hk) (place-of w g k hk)
 
 -- each entry of a packed column, also past the last, is the list's
-pub entry-packed : (w : ℕ) (xs : List ℕ) (i : ℕ) → Small w xs → i < 64 * ceil (length xs) 64 → entry (packed w xs) w i ≡ getD xs i 0
+pub entry-packed : (w : ℕ) (xs : List ℕ) (i : ℕ) → Small w xs → i < 64 * ceil (length xs) 64
+    → entry (packed w xs) w i ≡ getD xs i 0
 entry-packed w xs i small h =
     let g : ℕ = i / 64 in
     let here : 64 * g + i % 64 ≡ i = omega arith in
-    lane-planes (packed w xs) xs (g * w) w g (i % 64) small (omega arith) (λ k l. getD-packed w xs g k (omega arith) l)
+    lane-planes (packed w xs) xs (g * w) w g (i % 64) small (omega arith)
+    (λ k l. getD-packed w xs g k (omega arith) l)
     ∙ ap (λ (j : ℕ). getD xs j 0) here
 
 -- ---- there and back
@@ -85,9 +92,11 @@ unused-packed w xs e =
     entry-packed w xs (n + k) (small-of w xs e) (omega arith) ∙ List·getD-eq-default xs 0 {n = n + k} (omega arith) in
     le-ltb 0 (entry (packed w xs) w (n + k)) (omega arith))
 
-pub pack-unpacked : (w n : ℕ) (words : List ℕ) → Small 64 words → length words ≡ pageWords w n → unused words w n ≡ false
+pub pack-unpacked : (w n : ℕ) (words : List ℕ) → Small 64 words → length words ≡ pageWords w n
+    → unused words w n ≡ false
     → packed w (tabulate n (entry words w)) ≡ words
-pack-unpacked w n words small size none = ext-getD 0 (packed w xs) words (length-packed w xs ∙ ap (pageWords w) long ∙ sym size) same
+pack-unpacked w n words small size none =
+    ext-getD 0 (packed w xs) words (length-packed w xs ∙ ap (pageWords w) long ∙ sym size) same
   where
     xs : List ℕ
     xs = tabulate n (entry words w)
@@ -98,7 +107,8 @@ pack-unpacked w n words small size none = ext-getD 0 (packed w xs) words (length
     -- lane j of group g is its entry, and 0 past n
     lanes : (g j : ℕ) → g < ceil n 64 → j < 64 → getD xs (64 * g + j) 0 ≡ lane words (g * w) w j
     lanes g j hg hj =
-        getD-tabulate-zero n (entry words w) (64 * g + j) (λ past. unused-zero words w n (64 * g + j) none past (omega arith))
+        getD-tabulate-zero n (entry words w) (64 * g + j)
+        (λ past. unused-zero words w n (64 * g + j) none past (omega arith))
         ∙ entry-group words w g j hj
 
     same : (i : ℕ) → i < length (packed w xs) → getD (packed w xs) i 0 ≡ getD words i 0
@@ -110,7 +120,8 @@ pack-unpacked w n words small size none = ext-getD 0 (packed w xs) words (length
         let split : g * w + k ≡ i = div-add-mod' i w in
         let group : g < ceil n 64 = div-lt-iff-lt-mul {k = w} {x = i} {y = ceil n 64} wide .1 all in
         let inside : k < w = mod-lt i wide in
-        let packed-word : getD (packed w xs) (g * w + k) 0 ≡ plane w xs g k = getD-packed w xs g k (rw long group) inside in
+        let packed-word : getD (packed w xs) (g * w + k) 0 ≡ plane w xs g k =
+        getD-packed w xs g k (rw long group) inside in
         let back : plane w xs g k ≡ getD words (g * w + k) 0 =
         plane-lanes words xs (g * w) w g k inside (small (g * w + k)) (λ j h. lanes g j group h) in
         rw split at (packed-word ∙ back)
@@ -119,10 +130,12 @@ pack-unpacked w n words small size none = ext-getD 0 (packed w xs) words (length
 
 -- g groups' entries are in place, and m of the next group's
 pub next-group-entries : (l words : List ℕ) (w g m : ℕ) → m ≤ 64 → 64 * g + m ≤ length l
-    → put (put l 0 (tabulate (64 * g) (entry words w))) (64 * g) (tabulate m (lane words (g * w) w)) ≡ put l 0 (tabulate (64 * g + m) (entry words w))
+    → put (put l 0 (tabulate (64 * g) (entry words w))) (64 * g) (tabulate m (lane words (g * w) w))
+    ≡ put l 0 (tabulate (64 * g + m) (entry words w))
 next-group-entries l words w g m few fits =
     ap (put (put l 0 (tabulate (64 * g) (entry words w))) (64 * g))
-    (tabulate-ext m (lane words (g * w) w) (λ j. entry words w (64 * g + j)) (λ j h. sym (entry-group words w g j (omega arith))))
+    (tabulate-ext m (lane words (g * w) w) (λ j. entry words w (64 * g + j))
+    (λ j h. sym (entry-group words w g j (omega arith))))
     ∙ put-tabulate-add l (64 * g) m (entry words w) fits
 
 -- g groups' planes are in place, and the next group's
@@ -132,5 +145,6 @@ pub next-group-planes : (l xs : List ℕ) (w g : ℕ) → g * w + w ≤ length l
 next-group-planes l xs w g fits =
     let f : ℕ → ℕ = λ i. plane w xs (i / w) (i % w) in
     ap (put (put l 0 (tabulate (g * w) f)) (g * w))
-    (tabulate-ext w (plane w xs g) (λ k. f (g * w + k)) (λ k h. sym (ap₂ (plane w xs) (group-of w g k h) (place-of w g k h))))
+    (tabulate-ext w (plane w xs g) (λ k. f (g * w + k))
+    (λ k h. sym (ap₂ (plane w xs) (group-of w g k h) (place-of w g k h))))
     ∙ put-tabulate-add l (g * w) w f fits

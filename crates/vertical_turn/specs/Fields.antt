@@ -30,7 +30,8 @@ fields-mul zero d f c = zero-mul c
 fields-mul (suc n) d f c =
     let u : ℕ = fields n d (λ i. f (suc i)) in
     let e : u * 2 ^ d * c ≡ u * c * 2 ^ d = rw (mul-assoc, mul-comm (2 ^ d), ← mul-assoc) in
-    add-mul (f zero) (u * 2 ^ d) c ∙ ap (λ (x : ℕ). f zero * c + x) (e ∙ ap (λ (x : ℕ). x * 2 ^ d) (fields-mul n d (λ i. f (suc i)) c))
+    add-mul (f zero) (u * 2 ^ d) c
+    ∙ ap (λ (x : ℕ). f zero * c + x) (e ∙ ap (λ (x : ℕ). x * 2 ^ d) (fields-mul n d (λ i. f (suc i)) c))
 
 -- a remainder of a remainder
 mod-low : (x b d : ℕ) → b ≤ d → x % 2 ^ d % 2 ^ b ≡ x % 2 ^ b
@@ -39,7 +40,8 @@ mod-low x b d h =
     ap (λ (k : ℕ). x % 2 ^ k % 2 ^ b) size ∙ mod-mod-pow x (d - b) b
 
 -- the low b bits of each field of any number
-pub fields-mask : (n d b x : ℕ) → b ≤ d → bitAnd x (fields n d (λ i. 2 ^ b - 1)) ≡ fields n d (λ i. x / 2 ^ (i * d) % 2 ^ b)
+pub fields-mask : (n d b x : ℕ) → b ≤ d
+    → bitAnd x (fields n d (λ i. 2 ^ b - 1)) ≡ fields n d (λ i. x / 2 ^ (i * d) % 2 ^ b)
 unfolding joined tabulate
 fields-mask zero d b x h = and-zero-r x
 fields-mask (suc n) d b x h =

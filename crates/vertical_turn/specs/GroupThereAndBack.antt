@@ -19,24 +19,28 @@ use Rattle.vertical_turn.specs.Planes.{plane-lt, bit-plane}
 
 module _ (words xs : List ℕ) (at w g : ℕ) where
   -- words that are the group's planes have its entries as their lanes
-  pub lane-planes : (j : ℕ) → Small w xs → j < 64 → ((k : ℕ) → k < w → getD words (at + k) 0 ≡ plane w xs g k) → lane words at w j ≡ getD xs (64 * g + j) 0
+  pub lane-planes : (j : ℕ) → Small w xs → j < 64 → ((k : ℕ) → k < w → getD words (at + k) 0 ≡ plane w xs g k)
+      → lane words at w j ≡ getD xs (64 * g + j) 0
   lane-planes j small h planes = ext w (lane-lt words at w j) (small (64 * g + j)) same
     where
       same : (k : ℕ) → k < w → bit (lane words at w j) k ≡ bit (getD xs (64 * g + j) 0) k
       same k l =
           let back : w - 1 - (w - 1 - k) ≡ k = omega arith in
-          bit-lane words at w j k l ∙ ap (λ (p : ℕ). bit p j) (planes (w - 1 - k) (omega arith)) ∙ bit-plane w xs g (w - 1 - k) j h
+          bit-lane words at w j k l ∙ ap (λ (p : ℕ). bit p j) (planes (w - 1 - k) (omega arith))
+          ∙ bit-plane w xs g (w - 1 - k) j h
           ∙ ap (bit (getD xs (64 * g + j) 0)) back
 
   -- entries that are the words' lanes have these words as their planes
-  pub plane-lanes : (k : ℕ) → k < w → getD words (at + k) 0 < 2 ^ 64 → ((j : ℕ) → j < 64 → getD xs (64 * g + j) 0 ≡ lane words at w j)
+  pub plane-lanes : (k : ℕ) → k < w → getD words (at + k) 0 < 2 ^ 64
+      → ((j : ℕ) → j < 64 → getD xs (64 * g + j) 0 ≡ lane words at w j)
       → plane w xs g k ≡ getD words (at + k) 0
   plane-lanes k h small lanes = ext 64 (plane-lt w xs g k) small same
     where
       same : (j : ℕ) → j < 64 → bit (plane w xs g k) j ≡ bit (getD words (at + k) 0) j
       same j l =
           let back : w - 1 - (w - 1 - k) ≡ k = omega arith in
-          bit-plane w xs g k j l ∙ ap (λ (x : ℕ). bit x (w - 1 - k)) (lanes j l) ∙ bit-lane words at w j (w - 1 - k) (omega arith)
+          bit-plane w xs g k j l ∙ ap (λ (x : ℕ). bit x (w - 1 - k)) (lanes j l)
+          ∙ bit-lane words at w j (w - 1 - k) (omega arith)
           ∙ ap (λ (i : ℕ). bit (getD words (at + i) 0) j) back
 
 -- what is tabulated, and 0 past it, is f where f is 0 there

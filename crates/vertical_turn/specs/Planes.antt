@@ -27,24 +27,31 @@ pub plane-lt : (w : ℕ) (xs : List ℕ) (g k : ℕ) → plane w xs g k < 2 ^ 64
 unfolding plane
 plane-lt w xs g k = word-lt 64 (λ j. ltb 0 (bit (getD xs (64 * g + j) 0) (w - 1 - k)))
 
-pub bit-plane : (w : ℕ) (xs : List ℕ) (g k j : ℕ) → j < 64 → bit (plane w xs g k) j ≡ bit (getD xs (64 * g + j) 0) (w - 1 - k)
+pub bit-plane : (w : ℕ) (xs : List ℕ) (g k j : ℕ) → j < 64
+    → bit (plane w xs g k) j ≡ bit (getD xs (64 * g + j) 0) (w - 1 - k)
 unfolding plane
 bit-plane w xs g k j h =
-    bit-word 64 (λ i. ltb 0 (bit (getD xs (64 * g + i) 0) (w - 1 - k))) j h ∙ flag-bit (getD xs (64 * g + j) 0) (w - 1 - k)
+    bit-word 64 (λ i. ltb 0 (bit (getD xs (64 * g + i) 0) (w - 1 - k))) j h
+    ∙ flag-bit (getD xs (64 * g + j) 0) (w - 1 - k)
 
 -- entries that agree have the same planes
-pub plane-ext : (w : ℕ) (xs ys : List ℕ) (g h k : ℕ) → ((j : ℕ) → j < 64 → getD xs (64 * g + j) 0 ≡ getD ys (64 * h + j) 0) → plane w xs g k ≡ plane w ys h k
+pub plane-ext : (w : ℕ) (xs ys : List ℕ) (g h k : ℕ)
+    → ((j : ℕ) → j < 64 → getD xs (64 * g + j) 0 ≡ getD ys (64 * h + j) 0) → plane w xs g k ≡ plane w ys h k
 unfolding plane
 plane-ext w xs ys g h k e = word-ext 64 (λ j l. ap (λ (x : ℕ). ltb 0 (bit x (w - 1 - k))) (e j l))
 
 -- ---- a group's entries by themselves
 
 pub plane-drop : (w : ℕ) (xs : List ℕ) (g k : ℕ) → plane w (drop (64 * g) xs) 0 k ≡ plane w xs g k
-plane-drop w xs g k = plane-ext w (drop (64 * g) xs) xs 0 g k (λ j l. getD-drop (64 * g) xs (0 + j) 0 ∙ ap (λ (i : ℕ). getD xs (64 * g + i) 0) (zero-add j))
+plane-drop w xs g k =
+    plane-ext w (drop (64 * g) xs) xs 0 g k
+    (λ j l. getD-drop (64 * g) xs (0 + j) 0 ∙ ap (λ (i : ℕ). getD xs (64 * g + i) 0) (zero-add j))
 
 -- those that are lent: m of them, 64 or as many as are left
-pub plane-part : (w : ℕ) (xs : List ℕ) (g m k : ℕ) → min 64 (length xs - 64 * g) ≤ m → plane w (take m (drop (64 * g) xs)) 0 k ≡ plane w xs g k
-plane-part w xs g m k h = plane-ext w (take m ys) ys 0 0 k (λ j l. taken (0 + j) (omega arith) (ltb (0 + j) m) refl) ∙ plane-drop w xs g k
+pub plane-part : (w : ℕ) (xs : List ℕ) (g m k : ℕ) → min 64 (length xs - 64 * g) ≤ m
+    → plane w (take m (drop (64 * g) xs)) 0 k ≡ plane w xs g k
+plane-part w xs g m k h =
+    plane-ext w (take m ys) ys 0 0 k (λ j l. taken (0 + j) (omega arith) (ltb (0 + j) m) refl) ∙ plane-drop w xs g k
   where
     ys : List ℕ
     ys = drop (64 * g) xs
@@ -81,16 +88,19 @@ pub bitsOf-none : (b : ℕ) (xs : List ℕ) → bitsOf b (drop (length xs) xs) �
 unfolding bitsOf
 bitsOf-none b xs = ap (bitsOf b) (drop-length xs)
 
-pub bitsOf-step : (b : ℕ) (xs : List ℕ) (j : ℕ) → j < length xs → bitsOf b (drop j xs) ≡ bitsOf b (drop (j + 1) xs) * 2 + getD xs j 0 / 2 ^ b % 2
+pub bitsOf-step : (b : ℕ) (xs : List ℕ) (j : ℕ) → j < length xs
+    → bitsOf b (drop j xs) ≡ bitsOf b (drop (j + 1) xs) * 2 + getD xs j 0 / 2 ^ b % 2
 unfolding bitsOf bit
 bitsOf-step b xs j h = rw (add-one, drop-cons xs j 0 h)
 
 -- at most 64 entries make a word, and it is the plane
 pub bitsOf-fits : (b : ℕ) (xs : List ℕ) (j : ℕ) → length xs ≤ 64 → bitsOf b (drop j xs) < 2 ^ 64
 bitsOf-fits b xs j h =
-    lt-of-lt-of-le (bitsOf-lt b (drop j xs)) (pow-mono {i = length (drop j xs)} {j = 64} (omega (arith, length-drop j xs)))
+    lt-of-lt-of-le (bitsOf-lt b (drop j xs))
+    (pow-mono {i = length (drop j xs)} {j = 64} (omega (arith, length-drop j xs)))
 
 pub bitsOf-plane : (w : ℕ) (xs : List ℕ) (k : ℕ) → length xs ≤ 64 → bitsOf (w - 1 - k) xs ≡ plane w xs 0 k
 bitsOf-plane w xs k h =
     ext 64 (bitsOf-fits (w - 1 - k) xs 0 h) (plane-lt w xs 0 k)
-    (λ j l. bit-bitsOf (w - 1 - k) xs j ∙ ap (λ (i : ℕ). bit (getD xs i 0) (w - 1 - k)) (sym (zero-add j)) ∙ sym (bit-plane w xs 0 k j l))
+    (λ j l. bit-bitsOf (w - 1 - k) xs j ∙ ap (λ (i : ℕ). bit (getD xs i 0) (w - 1 - k)) (sym (zero-add j)) ∙ sym
+    (bit-plane w xs 0 k j l))

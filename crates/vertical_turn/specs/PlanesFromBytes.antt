@@ -41,7 +41,8 @@ module _ (xs : List ℕ) (low r : ℕ) where
   gathered-all = refl
 
   -- one byte more
-  pub gathered-step : (b : ℕ) → b < 8 → gatheredFrom b ≡ gatheredFrom (b + 1) * 256 + getD xs (8 * b + (7 - r)) 0 / 2 ^ low % 256
+  pub gathered-step : (b : ℕ) → b < 8
+      → gatheredFrom b ≡ gatheredFrom (b + 1) * 256 + getD xs (8 * b + (7 - r)) 0 / 2 ^ low % 256
   unfolding gatheredFrom byteOf
   gathered-step b h =
       let s : List ℕ = tabulate 8 (byteOf xs low r) in
@@ -65,11 +66,14 @@ unfolding gatheredFrom byteOf
 gathered-none xs low r b small past =
     let f : ℕ → ℕ = byteOf xs low r in
     let none : (k : ℕ) → f (b + k) ≡ 0 =
-    λ k. ap (λ (x : ℕ). x / 2 ^ low % 256) (List·getD-eq-default xs 0 {n = 8 * (b + k) + (7 - r)} (omega arith)) ∙ ap (λ (x : ℕ). x % 256) (zero-div (2 ^ low)) in
-    zeros-number (drop b (tabulate 8 f)) (λ k. getD-drop b (tabulate 8 f) k 0 ∙ getD-tabulate-zero 8 f (b + k) (λ h. none k) ∙ none k)
+    λ k. ap (λ (x : ℕ). x / 2 ^ low % 256) (List·getD-eq-default xs 0 {n = 8 * (b + k) + (7 - r)} (omega arith)) ∙
+    ap (λ (x : ℕ). x % 256) (zero-div (2 ^ low)) in
+    zeros-number (drop b (tabulate 8 f))
+    (λ k. getD-drop b (tabulate 8 f) k 0 ∙ getD-tabulate-zero 8 f (b + k) (λ h. none k) ∙ none k)
 
 -- bit 8 × b + i of a gathered word is bit low + i of entry 8 × b + 7 − r
-pub bit-gathered : (xs : List ℕ) (low r b i : ℕ) → b < 8 → i < 8 → bit (gathered xs low r) (b * 8 + i) ≡ bit (getD xs (8 * b + (7 - r)) 0) (low + i)
+pub bit-gathered : (xs : List ℕ) (low r b i : ℕ) → b < 8 → i < 8
+    → bit (gathered xs low r) (b * 8 + i) ≡ bit (getD xs (8 * b + (7 - r)) 0) (low + i)
 unfolding gathered byteOf
 bit-gathered xs low r b i hb hi =
     let s : List ℕ = tabulate 8 (byteOf xs low r) in
@@ -78,7 +82,8 @@ bit-gathered xs low r b i hb hi =
     ∙ bit-mod 8 (getD xs (8 * b + (7 - r)) 0 / 2 ^ low) i hi ∙ bit-shr (getD xs (8 * b + (7 - r)) 0) low i
 
 -- the turned words are the planes
-pub turned-gathered : (xs z : List ℕ) (w low i k : ℕ) → i < 8 → low + i ≡ w - 1 - k → turned (put z 0 (tabulate 8 (gathered xs low))) 0 8 i ≡ plane w xs 0 k
+pub turned-gathered : (xs z : List ℕ) (w low i k : ℕ) → i < 8 → low + i ≡ w - 1 - k
+    → turned (put z 0 (tabulate 8 (gathered xs low))) 0 8 i ≡ plane w xs 0 k
 turned-gathered xs z w low i k hi place = ext 64 (turned-fits words 0 8 i (omega arith)) (plane-lt w xs 0 k) same
   where
     words : List ℕ
@@ -86,7 +91,8 @@ turned-gathered xs z w low i k hi place = ext 64 (turned-fits words 0 8 i (omega
 
     word : (r : ℕ) → r < 8 → getD words (0 + r) 0 ≡ gathered xs low r
     word r h =
-        ap (λ (j : ℕ). getD words j 0) (zero-add r) ∙ getD-put-front z (tabulate 8 (gathered xs low)) r (omega (arith, length-tabulate 8 (gathered xs low)))
+        ap (λ (j : ℕ). getD words j 0) (zero-add r)
+        ∙ getD-put-front z (tabulate 8 (gathered xs low)) r (omega (arith, length-tabulate 8 (gathered xs low)))
         ∙ getD-tabulate 8 (gathered xs low) r 0 h
 
     same : (j : ℕ) → j < 64 → bit (turned words 0 8 i) j ≡ bit (plane w xs 0 k) j
@@ -110,7 +116,8 @@ turnedDown words n t = turned words 0 8 (n - 1 - t)
 
 -- n planes from plane k on
 pub laid-planes : (xs z : List ℕ) (w k n : ℕ) → n ≤ 8 → k + n ≤ w
-    → tabulate n (turnedDown (put z 0 (tabulate 8 (gathered xs (w - k - n)))) n) ≡ tabulate n (λ t. plane w xs 0 (k + t))
+    → tabulate n (turnedDown (put z 0 (tabulate 8 (gathered xs (w - k - n)))) n)
+    ≡ tabulate n (λ t. plane w xs 0 (k + t))
 unfolding turnedDown
 laid-planes xs z w k n few fits =
     tabulate-ext n (turnedDown (put z 0 (tabulate 8 (gathered xs (w - k - n)))) n) (λ t. plane w xs 0 (k + t))

@@ -11,15 +11,18 @@ use Rattle.words.specs.Tabulated.{length-tabulate, tabulate-ext, put-tabulate-a
 -- ---- places that are put, and those behind them
 
 -- a place behind those that are put keeps what it held
-pub getD-put-past : (l vs : List ℕ) (at k : ℕ) → at ≤ length l → at + length vs ≤ k → getD (put l at vs) k 0 ≡ getD l k 0
+pub getD-put-past : (l vs : List ℕ) (at k : ℕ) → at ≤ length l → at + length vs ≤ k
+    → getD (put l at vs) k 0 ≡ getD l k 0
 unfolding put
 getD-put-past l vs at k h past =
     let front : List ℕ = take at l ++ vs in
-    let size : length front ≡ at + length vs = length-append (take at l) vs ∙ ap (λ (n : ℕ). n + length vs) (length-take-le at l h) in
+    let size : length front ≡ at + length vs =
+    length-append (take at l) vs ∙ ap (λ (n : ℕ). n + length vs) (length-take-le at l h) in
     let rest : ℕ = k - length front in
     let place : k ≡ length front + rest = omega arith in
     let back : at + length vs + rest ≡ k = omega arith in
-    ap (λ (i : ℕ). getD (front ++ drop (at + length vs) l) i 0) place ∙ getD-append-add front (drop (at + length vs) l) rest 0
+    ap (λ (i : ℕ). getD (front ++ drop (at + length vs) l) i 0) place
+    ∙ getD-append-add front (drop (at + length vs) l) rest 0
     ∙ getD-drop (at + length vs) l rest 0 ∙ ap (λ (i : ℕ). getD l i 0) back
 
 -- one of those put at the front
@@ -54,7 +57,8 @@ next-place words l from i h =
 
 -- a row of n places more
 pub next-row : (words l : List ℕ) (from n : ℕ) → from % 8 ≡ 0 → n ≤ 8 → from + n ≤ length l
-    → put (put l 0 (tabulate from (grown words l))) from (tabulate n (grownRow words (put l 0 (tabulate from (grown words l))) from))
+    → put (put l 0 (tabulate from (grown words l))) from
+    (tabulate n (grownRow words (put l 0 (tabulate from (grown words l))) from))
     ≡ put l 0 (tabulate (from + n) (grown words l))
 unfolding grown grownRow
 next-row words l from n whole few fits =
@@ -64,4 +68,5 @@ next-row words l from n whole few fits =
     let same : (i : ℕ) → i < n → grownRow words done from i ≡ f (from + i) =
     λ i h. ap₂ behind (getD-put-past l (tabulate from f) 0 (from + i) (omega arith) (omega arith))
     (ap₂ (λ (r q : ℕ). getD words r 0 / 2 ^ q % 256) (omega arith) (omega arith)) in
-    ap (put done from) (tabulate-ext n (grownRow words done from) (λ i. f (from + i)) same) ∙ put-tabulate-add l from n f fits
+    ap (put done from) (tabulate-ext n (grownRow words done from) (λ i. f (from + i)) same)
+    ∙ put-tabulate-add l from n f fits

@@ -1,4 +1,5 @@
--- Words turned byte by byte: of eight words every eighth bit, from bit i on, makes one word, in which byte b is lane 8 × b + i.
+-- Words turned byte by byte: of eight words every eighth bit, from bit i on, makes one word, in which byte b is
+-- lane 8 × b + i.
 use mathlib.Core.Path.{_≡_, refl, sym, ap, ap₂, _∙_}
 use mathlib.Core.List.{List}
 use Prim.Native.Nat.{ℕ, _+_, _-_, _*_, _/_, _%_, _^_, _≤_, _<_}
@@ -34,7 +35,8 @@ eighths : (x i : ℕ) → bitAnd (x / 2 ^ i) 72340172838076673 ≡ fields 8 8 (�
 unfolding bit
 eighths x i =
     ap (bitAnd (x / 2 ^ i)) lowest ∙ fields-mask 8 8 1 (x / 2 ^ i) (omega arith)
-    ∙ fields-ext 8 8 _ _ (λ b l. ap (λ (y : ℕ). y % 2) (shr-shr x i (b * 8) ∙ ap (λ (k : ℕ). x / 2 ^ k) (add-comm i (b * 8))))
+    ∙ fields-ext 8 8 _ _
+    (λ b l. ap (λ (y : ℕ). y % 2) (shr-shr x i (b * 8) ∙ ap (λ (k : ℕ). x / 2 ^ k) (add-comm i (b * 8))))
 
 -- one word more
 pub turned-next : (words : List ℕ) (at k i : ℕ)
@@ -44,7 +46,8 @@ turned-next words at k i =
     let f : ℕ → ℕ = λ b. lane words at k (b * 8 + i) in
     let g : ℕ → ℕ = λ b. bit (getD words (at + k) 0) (b * 8 + i) in
     rw add-one (sym
-    (ap₂ (λ (x y : ℕ). x + y) (fields-mul 8 8 f 2) (eighths (getD words (at + k) 0) i) ∙ fields-add 8 8 (λ b. f b * 2) g))
+    (ap₂ (λ (x y : ℕ). x + y) (fields-mul 8 8 f 2) (eighths (getD words (at + k) 0) i)
+    ∙ fields-add 8 8 (λ b. f b * 2) g))
 
 module _ (words : List ℕ) (at n i : ℕ) (few : n ≤ 8) where
   byte-lane : (b : ℕ) → lane words at n (b * 8 + i) < 2 ^ 8

@@ -23,7 +23,8 @@ fn gather_one(entries: &[u32], low: usize, r: usize) -> u64
 // All eight, so that the last of every eight entries comes first.
 pub fn gather(entries: &[u32], low: usize, words: &mut [u64])
     requires { ⌜ (length (now entries) ≤ 64) × (low < 32) × (8 ≤ length (now words)) ⌝ }
-    ensures { λ _. ⌜ now (words .exit) ≡ put (now (words .entry)) 0 (tabulate 8 (gathered (now (entries .entry)) low)) ⌝ }
+    ensures { λ _. ⌜ now (words .exit)
+        ≡ put (now (words .entry)) 0 (tabulate 8 (gathered (now (entries .entry)) low)) ⌝ }
 {
     let mut r: usize = 0;
     while r < 8 {

@@ -11,7 +11,8 @@ use crate::turning::turn_one;
 // The n planes from plane k on that gathered words make, the highest bit's first.
 fn lay_few(words: &[u64], n: usize, k: usize, planes: &mut [u64])
     requires { ⌜ (8 ≤ length (now words)) × (n ≤ 8) × (k + n ≤ length (now planes)) ⌝ }
-    ensures { λ _. ⌜ now (planes .exit) ≡ put (now (planes .entry)) k (tabulate n (turnedDown (now (words .entry)) n)) ⌝ }
+    ensures { λ _. ⌜ now (planes .exit)
+        ≡ put (now (planes .entry)) k (tabulate n (turnedDown (now (words .entry)) n)) ⌝ }
 {
     let mut t: usize = 0;
     while t < n {
@@ -23,7 +24,8 @@ fn lay_few(words: &[u64], n: usize, k: usize, planes: &mut [u64])
 // The same of eight planes: a copy of its own, in which each turn is laid out.
 fn lay_eight(words: &[u64], k: usize, planes: &mut [u64])
     requires { ⌜ (8 ≤ length (now words)) × (k + 8 ≤ length (now planes)) ⌝ }
-    ensures { λ _. ⌜ now (planes .exit) ≡ put (now (planes .entry)) k (tabulate 8 (turnedDown (now (words .entry)) 8)) ⌝ }
+    ensures { λ _. ⌜ now (planes .exit)
+        ≡ put (now (planes .entry)) k (tabulate 8 (turnedDown (now (words .entry)) 8)) ⌝ }
 {
     let mut t: usize = 0;
     while t < 8 {
@@ -35,7 +37,8 @@ fn lay_eight(words: &[u64], k: usize, planes: &mut [u64])
 // One or the other.
 fn lay(words: &[u64], n: usize, k: usize, planes: &mut [u64])
     requires { ⌜ (8 ≤ length (now words)) × (n ≤ 8) × (k + n ≤ length (now planes)) ⌝ }
-    ensures { λ _. ⌜ now (planes .exit) ≡ put (now (planes .entry)) k (tabulate n (turnedDown (now (words .entry)) n)) ⌝ }
+    ensures { λ _. ⌜ now (planes .exit)
+        ≡ put (now (planes .entry)) k (tabulate n (turnedDown (now (words .entry)) n)) ⌝ }
 {
     if n == 8 {
         lay_eight(words, k, planes);
@@ -61,8 +64,10 @@ fn plane_of(entries: &[u32], w: usize, k: usize) -> u64
 
 // The n planes from plane k on, by a byte of each entry.
 fn planes_together(entries: &[u32], w: usize, k: usize, n: usize, planes: &mut [u64])
-    requires { ⌜ (length (now entries) ≤ 64) × (w ≤ 32) × (0 < n) × (n ≤ 8) × (k + n ≤ w) × (w ≤ length (now planes)) ⌝ }
-    ensures { λ _. ⌜ now (planes .exit) ≡ put (now (planes .entry)) k (tabulate n (λ t. plane w (now (entries .entry)) 0 (k + t))) ⌝ }
+    requires { ⌜ (length (now entries) ≤ 64) × (w ≤ 32) × (0 < n) × (n ≤ 8) × (k + n ≤ w)
+        × (w ≤ length (now planes)) ⌝ }
+    ensures { λ _. ⌜ now (planes .exit)
+        ≡ put (now (planes .entry)) k (tabulate n (λ t. plane w (now (entries .entry)) 0 (k + t))) ⌝ }
 {
     let mut words = [0u64; 8];
     gather(entries, w - k - n, &mut words);
@@ -71,8 +76,10 @@ fn planes_together(entries: &[u32], w: usize, k: usize, n: usize, planes: &mut [
 
 // The same; one plane is sooner made by itself.
 fn some_planes(entries: &[u32], w: usize, k: usize, n: usize, planes: &mut [u64])
-    requires { ⌜ (length (now entries) ≤ 64) × (w ≤ 32) × (0 < n) × (n ≤ 8) × (k + n ≤ w) × (w ≤ length (now planes)) ⌝ }
-    ensures { λ _. ⌜ now (planes .exit) ≡ put (now (planes .entry)) k (tabulate n (λ t. plane w (now (entries .entry)) 0 (k + t))) ⌝ }
+    requires { ⌜ (length (now entries) ≤ 64) × (w ≤ 32) × (0 < n) × (n ≤ 8) × (k + n ≤ w)
+        × (w ≤ length (now planes)) ⌝ }
+    ensures { λ _. ⌜ now (planes .exit)
+        ≡ put (now (planes .entry)) k (tabulate n (λ t. plane w (now (entries .entry)) 0 (k + t))) ⌝ }
 {
     if n == 1 {
         planes[k] = plane_of(entries, w, k);
@@ -81,10 +88,12 @@ fn some_planes(entries: &[u32], w: usize, k: usize, n: usize, planes: &mut [u64]
     }
 }
 
-// The w planes of a group of at most 64 entries; a lane past them is 0. The first turn gives the planes that are left over of eights.
+// The w planes of a group of at most 64 entries; a lane past them is 0. The first turn gives the planes
+// that are left over of eights.
 pub fn pack_group(entries: &[u32], w: usize, planes: &mut [u64])
     requires { ⌜ (w ≤ 32) × (length (now entries) ≤ 64) × (w ≤ length (now planes)) ⌝ }
-    ensures { λ _. ⌜ now (planes .exit) ≡ put (now (planes .entry)) 0 (tabulate w (plane w (now (entries .entry)) 0)) ⌝ }
+    ensures { λ _. ⌜ now (planes .exit)
+        ≡ put (now (planes .entry)) 0 (tabulate w (plane w (now (entries .entry)) 0)) ⌝ }
 {
     let mut k: usize = 0;
     while k < w {

@@ -25,7 +25,8 @@ pub fn turn_one(words: &[u64], at: usize, n: usize, i: usize) -> u64
 // All eight words that n words make.
 fn turn_few(words: &[u64], at: usize, n: usize, out: &mut [u64])
     requires { ⌜ (at + n ≤ length (now words)) × (n ≤ 8) × (8 ≤ length (now out)) ⌝ }
-    ensures { λ _. ⌜ now (out .exit) ≡ put (now (out .entry)) 0 (tabulate 8 (turned (now (words .entry)) at n)) ⌝ }
+    ensures { λ _. ⌜ now (out .exit)
+        ≡ put (now (out .entry)) 0 (tabulate 8 (turned (now (words .entry)) at n)) ⌝ }
 {
     let mut i: usize = 0;
     while i < 8 {
@@ -37,7 +38,8 @@ fn turn_few(words: &[u64], at: usize, n: usize, out: &mut [u64])
 // The same of eight words: a copy of its own, in which each turn is laid out.
 fn turn_eight(words: &[u64], at: usize, out: &mut [u64])
     requires { ⌜ (at + 8 ≤ length (now words)) × (8 ≤ length (now out)) ⌝ }
-    ensures { λ _. ⌜ now (out .exit) ≡ put (now (out .entry)) 0 (tabulate 8 (turned (now (words .entry)) at 8)) ⌝ }
+    ensures { λ _. ⌜ now (out .exit)
+        ≡ put (now (out .entry)) 0 (tabulate 8 (turned (now (words .entry)) at 8)) ⌝ }
 {
     let mut i: usize = 0;
     while i < 8 {
@@ -49,7 +51,8 @@ fn turn_eight(words: &[u64], at: usize, out: &mut [u64])
 // One or the other.
 pub fn turn(words: &[u64], at: usize, n: usize, out: &mut [u64])
     requires { ⌜ (at + n ≤ length (now words)) × (n ≤ 8) × (8 ≤ length (now out)) ⌝ }
-    ensures { λ _. ⌜ now (out .exit) ≡ put (now (out .entry)) 0 (tabulate 8 (turned (now (words .entry)) at n)) ⌝ }
+    ensures { λ _. ⌜ now (out .exit)
+        ≡ put (now (out .entry)) 0 (tabulate 8 (turned (now (words .entry)) at n)) ⌝ }
 {
     if n == 8 {
         turn_eight(words, at, out);

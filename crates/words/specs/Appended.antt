@@ -2,7 +2,8 @@
 use mathlib.Core.Path.{_≡_, sym, ap, _∙_}
 use mathlib.Core.List.{List, _++_}
 use Prim.Native.Nat.{ℕ, zero, suc, _+_, _-_, _*_, _/_, _%_, _^_, _≤_, _<_}
-use native.Mathlib.Nat.{lt-of-lt-of-le, mod-eq-of-lt, mod-one, mul-assoc, one-le-pow, mul-add-div-right, mul-add-mod-self-right}
+use native.Mathlib.Nat.{lt-of-lt-of-le, mod-eq-of-lt, mod-one, mul-assoc, one-le-pow, mul-add-div-right}
+use native.Mathlib.Nat.{mul-add-mod-self-right}
 use native.Mathlib.Omega.{arith}
 use lib.Seq.{take-at, drop-at}
 use lib.ListN.{length, take, drop, getD}
@@ -25,7 +26,8 @@ first-bits zero x d h l = mod-one (getD d 0 0) ∙ sym (lt-one l)
 first-bits (suc r) x d h l =
     let size : ceil (suc r) 8 ≡ 1 = omega arith in
     let small : x < 256 = lt-of-lt-of-le l (pow-mono {i = suc r} {j = 8} (omega arith)) in
-    ap (λ (k : ℕ). getD (bytes k x ++ d) 0 0 % 2 ^ suc r) size ∙ ap (λ (y : ℕ). y % 2 ^ suc r) (mod-eq-of-lt small) ∙ mod-eq-of-lt l
+    ap (λ (k : ℕ). getD (bytes k x ++ d) 0 0 % 2 ^ suc r) size ∙ ap (λ (y : ℕ). y % 2 ^ suc r) (mod-eq-of-lt small)
+    ∙ mod-eq-of-lt l
 
 -- p bits in place, a number n, with the m bits of x put behind them: the p + m bits of both
 pub appended-bits : (l : List ℕ) (p m n x : ℕ) → n < 2 ^ p
@@ -42,15 +44,26 @@ appended-bits l p m n x h =
     let w : List ℕ = bytes (ceil (r + m) 8) (x * 2 ^ r + high) in
     let d : List ℕ = drop (a + length v) l in
     let size : length u ≡ a = length-bytes a n in
-    let more : length v ≤ length w = omega (arith, length-bytes (ceil r 8) high, length-bytes (ceil (r + m) 8) (x * 2 ^ r + high)) in
+    let more : length v ≤ length w =
+    omega (arith, length-bytes (ceil r 8) high, length-bytes (ceil (r + m) 8) (x * 2 ^ r + high)) in
     let before : bytes (ceil p 8) n ≡ u ++ v = ap (λ (k : ℕ). bytes k n) (omega arith) ∙ bytes-add a (ceil r 8) n in
     let whole : x * 2 ^ p + n ≡ x * 2 ^ r * 256 ^ a + n =
-    ap (λ (k : ℕ). x * k + n) (ap (λ (k : ℕ). 2 ^ k) q ∙ pow-add 2 r (8 * a)) ∙ rw (← (pow-256 a)) (ap (λ (k : ℕ). k + n) (sym (mul-assoc x (2 ^ r) (256 ^ a)))) in
+    ap (λ (k : ℕ). x * k + n) (ap (λ (k : ℕ). 2 ^ k) q ∙ pow-add 2 r (8 * a))
+    ∙ rw (← (pow-256 a)) (ap (λ (k : ℕ). k + n) (sym (mul-assoc x (2 ^ r) (256 ^ a)))) in
     let low : bytes a (x * 2 ^ p + n) ≡ u =
-    sym (bytes-mod a (x * 2 ^ p + n)) ∙ ap (λ (k : ℕ). bytes a (k % 256 ^ a)) whole ∙ ap (bytes a) (mul-add-mod-self-right (x * 2 ^ r) (256 ^ a) n) ∙ bytes-mod a n in
+    sym (bytes-mod a (x * 2 ^ p + n)) ∙ ap (λ (k : ℕ). bytes a (k % 256 ^ a)) whole
+    ∙ ap (bytes a) (mul-add-mod-self-right (x * 2 ^ r) (256 ^ a) n) ∙ bytes-mod a n in
     let top : (x * 2 ^ p + n) / 256 ^ a ≡ x * 2 ^ r + high =
     ap (λ (k : ℕ). k / 256 ^ a) whole ∙ mul-add-div-right (one-le-pow a 256 (omega arith)) (x * 2 ^ r) n in
     let after : bytes (ceil (p + m) 8) (x * 2 ^ p + n) ≡ u ++ w =
-    ap (λ (k : ℕ). bytes k (x * 2 ^ p + n)) (omega arith) ∙ bytes-add a (ceil (r + m) 8) (x * 2 ^ p + n) ∙ rw (low, top) in
-    rw (before, split-put l u v a size, take-at u (v ++ d) a size, drop-at u (v ++ d) a size, first-bits r high d (omega arith) small, after)
+    ap (λ (k : ℕ). bytes k (x * 2 ^ p + n)) (omega arith) ∙ bytes-add a (ceil (r + m) 8) (x * 2 ^ p + n)
+    ∙ rw (low, top) in
+    rw (
+      before,
+      split-put l u v a size,
+      take-at u (v ++ d) a size,
+      drop-at u (v ++ d) a size,
+      first-bits r high d (omega arith) small,
+      after,
+    )
     (ap (λ (y : List ℕ). u ++ y) (put-longer l v w a more) ∙ sym (split-put l u w a size))

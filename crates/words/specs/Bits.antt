@@ -2,7 +2,8 @@
 use mathlib.Core.Path.{_≡_, refl, sym, ap, _∙_}
 use mathlib.Core.Bool.{Bool, true, false, not, _&&_, _||_}
 use Prim.Native.Nat.{ℕ, zero, suc, _+_, _-_, _*_, _/_, _%_, _^_, _≤_, _<_, min, max}
-use native.Mathlib.Nat.{not-suc-le-zero, div-one, zero-div, one-mul, mul-assoc, add-zero, zero-add, suc-add, pow-suc, add-comm, lt-of-lt-of-le}
+use native.Mathlib.Nat.{not-suc-le-zero, div-one, zero-div, one-mul, mul-assoc, add-zero, zero-add, suc-add}
+use native.Mathlib.Nat.{pow-suc, add-comm, lt-of-lt-of-le}
 use native.Mathlib.Numerals.{add-one}
 use native.Mathlib.Omega.{arith}
 use lib.Arith.{lt-one}
@@ -32,7 +33,8 @@ pub ext : (n : ℕ) {a b : ℕ} → a < 2 ^ n → b < 2 ^ n → ((k : ℕ) → k
 ext zero ha hb h = lt-one ha ∙ sym (lt-one hb)
 ext (suc n) {a} {b} ha hb h =
     let low : a % 2 ≡ b % 2 = sym (bit-zero a) ∙ h 0 (omega arith) ∙ bit-zero b in
-    let high : a / 2 ≡ b / 2 = ext n (half ha) (half hb) (λ k l. bit-half a k ∙ h (suc k) (omega arith) ∙ sym (bit-half b k)) in
+    let high : a / 2 ≡ b / 2 =
+    ext n (half ha) (half hb) (λ k l. bit-half a k ∙ h (suc k) (omega arith) ∙ sym (bit-half b k)) in
     omega arith
   where
     half : {x : ℕ} → x < 2 ^ suc n → x / 2 < 2 ^ n
@@ -157,7 +159,8 @@ module _ (n : ℕ) (f g : ℕ → Bool) where
 
 pub word-not : (n : ℕ) (f : ℕ → Bool) → 2 ^ n - 1 - word n f ≡ word n (λ k. not (f k))
 word-not n f =
-    word-of n _ (ones-sub-lt n (word n f)) (λ k l. rw (bit-not n k (word-lt n f) l, bit-word n f k l) (flag-not (f k)))
+    word-of n _ (ones-sub-lt n (word n f))
+    (λ k l. rw (bit-not n k (word-lt n f) l, bit-word n f k l) (flag-not (f k)))
 
 -- no bit set, and every bit
 pub word-none : (n : ℕ) → word n (λ _. false) ≡ 0
@@ -178,7 +181,8 @@ word-add (suc n) m f =
     simp suc-add (omega (arith, word-add n m (λ k. f (suc k))))
 
 -- n bits and then one more, which is shifted to its place in a word of N bits
-pub word-snoc : (N n : ℕ) (f : ℕ → Bool) (t : Bool) → n < N → t ≡ f n → word n f + (boolByte t * 2 ^ n) % 2 ^ N ≡ word (n + 1) f
+pub word-snoc : (N n : ℕ) (f : ℕ → Bool) (t : Bool) → n < N → t ≡ f n
+    → word n f + (boolByte t * 2 ^ n) % 2 ^ N ≡ word (n + 1) f
 unfolding word
 word-snoc N n f t h e =
     let one : word 1 (λ k. f (n + k)) ≡ flag (f n) = simp add-zero (omega arith) in

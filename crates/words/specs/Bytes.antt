@@ -2,7 +2,8 @@
 use mathlib.Core.Path.{_≡_, refl, sym, ap, ap₂, _∙_}
 use mathlib.Core.List.{List, [], _∷_, _++_}
 use Prim.Native.Nat.{ℕ, zero, suc, _+_, _-_, _*_, _/_, _%_, _^_, _≤_, _<_}
-use native.Mathlib.Nat.{mul-assoc, zero-add, suc-add, pow-suc, pow-succ', one-le-pow, div-one, div-div-eq-div-mul, add-comm, mod-one, mod-eq-of-lt, div-eq-of-lt, lt-of-lt-of-le}
+use native.Mathlib.Nat.{mul-assoc, zero-add, suc-add, pow-suc, pow-succ', one-le-pow, div-one, div-div-eq-div-mul}
+use native.Mathlib.Nat.{add-comm, mod-one, mod-eq-of-lt, div-eq-of-lt, lt-of-lt-of-le}
 use native.Mathlib.Numerals.{add-one}
 use native.Mathlib.Omega.{arith}
 use lib.Arith.{mod-mul}
@@ -73,7 +74,8 @@ number-bytes (suc n) x = omega (arith, mod-256 n x, number-bytes n (x / 256))
 pub pow-256 : (n : ℕ) → 256 ^ n ≡ 2 ^ (8 * n)
 pow-256 zero = refl
 pow-256 (suc n) =
-    pow-suc 256 n ∙ ap (λ (x : ℕ). x * 256) (pow-256 n) ∙ sym (pow-add 2 (8 * n) 8) ∙ ap (λ (x : ℕ). 2 ^ x) (omega arith)
+    pow-suc 256 n ∙ ap (λ (x : ℕ). x * 256) (pow-256 n) ∙ sym (pow-add 2 (8 * n) 8)
+    ∙ ap (λ (x : ℕ). 2 ^ x) (omega arith)
 
 -- bytes enough for the m bits of a number
 in-bytes : (n m x : ℕ) → x < 2 ^ m → m ≤ 8 * n → x < 256 ^ n
@@ -85,7 +87,8 @@ number-whole n m x h enough = number-bytes n x ∙ mod-eq-of-lt (in-bytes n m x 
 
 -- and k further ones are 0
 pub bytes-further : (n k m x : ℕ) → x < 2 ^ m → m ≤ 8 * n → bytes (n + k) x ≡ bytes n x ++ bytes k 0
-bytes-further n k m x h enough = bytes-add n k x ∙ ap (λ (y : ℕ). bytes n x ++ bytes k y) (div-eq-of-lt (in-bytes n m x h enough))
+bytes-further n k m x h enough =
+    bytes-add n k x ∙ ap (λ (y : ℕ). bytes n x ++ bytes k y) (div-eq-of-lt (in-bytes n m x h enough))
 
 -- ---- bytes in place
 
@@ -97,11 +100,13 @@ put-bytes l at n m x h =
     let b : List ℕ = bytes m (x / 256 ^ n) in
     let ea : length a ≡ n = length-bytes n x in
     let eb : length b ≡ m = length-bytes m (x / 256 ^ n) in
-    ap₂ (λ (v : List ℕ) (k : ℕ). put (put l at v) (at + k) b) (bytes-mod n x) (sym ea) ∙ put-put l a b at (omega arith)
+    ap₂ (λ (v : List ℕ) (k : ℕ). put (put l at v) (at + k) b) (bytes-mod n x) (sym ea)
+    ∙ put-put l a b at (omega arith)
     ∙ ap (put l at) (sym (bytes-add n m x))
 
 -- one byte more
-pub put-next : (l : List ℕ) (at k x : ℕ) → at + k < length l → set (put l at (bytes k x)) (at + k) (x / 256 ^ k % 256) ≡ put l at (bytes (k + 1) x)
+pub put-next : (l : List ℕ) (at k x : ℕ) → at + k < length l
+    → set (put l at (bytes k x)) (at + k) (x / 256 ^ k % 256) ≡ put l at (bytes (k + 1) x)
 unfolding bytes
 put-next l at k x h =
     let size : length (bytes k x) ≡ k = length-bytes k x in
@@ -109,15 +114,19 @@ put-next l at k x h =
 
 -- n bytes as the first k of them and the last k, which may overlap
 pub put-ends : (l : List ℕ) (at k n x : ℕ) → k ≤ n → n ≤ k + k → at + n ≤ length l
-    → put (put l at (bytes k (x % 256 ^ k))) (at + (n - k)) (bytes k (x / 2 ^ (8 * (n - k)) % 256 ^ k)) ≡ put l at (bytes n x)
+    → put (put l at (bytes k (x % 256 ^ k))) (at + (n - k)) (bytes k (x / 2 ^ (8 * (n - k)) % 256 ^ k))
+    ≡ put l at (bytes n x)
 put-ends l at k n x few many h =
     let j : ℕ = n - k in
     let front : List ℕ = bytes j x in
     let end : List ℕ = bytes k (x / 256 ^ j) in
     let over : List ℕ = bytes (k - j) (x / 256 ^ j) in
     let size : length front ≡ j = length-bytes j x in
-    let first : bytes k x ≡ front ++ over = let e : k ≡ j + (k - j) = omega arith in ap (λ (i : ℕ). bytes i x) e ∙ bytes-add j (k - j) x in
-    let all : bytes n x ≡ front ++ end = let e : n ≡ j + k = omega arith in ap (λ (i : ℕ). bytes i x) e ∙ bytes-add j k x in
+    let first : bytes k x ≡ front ++ over = let e : k ≡ j + (k - j) = omega arith in ap (λ (i : ℕ). bytes i x) e ∙
+    bytes-add j (k - j) x in
+    let all : bytes n x ≡ front ++ end = let e : n ≡ j + k = omega arith in ap (λ (i : ℕ). bytes i x) e ∙ bytes-add
+    j k x in
     let long : length end ≡ k = length-bytes k (x / 256 ^ j) in
     let short : length over ≡ k - j = length-bytes (k - j) (x / 256 ^ j) in
-    rw (bytes-mod k x, bytes-mod k (x / 2 ^ (8 * j)), ← (pow-256 j), first, all) (put-end l front over end at (at + j) (omega arith) (omega arith) (omega arith))
+    rw (bytes-mod k x, bytes-mod k (x / 2 ^ (8 * j)), ← (pow-256 j), first, all)
+    (put-end l front over end at (at + j) (omega arith) (omega arith) (omega arith))

@@ -15,7 +15,8 @@ pub field-number : (l : List ℕ) (k w : ℕ) → Small 8 l → field lowFirst l
 field-number l k w h = piece-joined 8 l k w (omega arith) h
 
 -- a field that lies in n bytes from byte b on
-pub field-window : (l : List ℕ) (b n k w : ℕ) → k + w ≤ 8 * n → field lowFirst (take n (drop b l)) k w ≡ field lowFirst l (8 * b + k) w
+pub field-window : (l : List ℕ) (b n k w : ℕ) → k + w ≤ 8 * n
+    → field lowFirst (take n (drop b l)) k w ≡ field lowFirst l (8 * b + k) w
 unfolding piece bitAt bitOf
 field-window l b n k zero h = refl
 field-window l b n k (suc w) h =
@@ -27,20 +28,25 @@ field-window l b n k (suc w) h =
     (field-window l b n (suc k) w (omega arith) ∙ ap (λ (i : ℕ). field lowFirst l i w) (omega arith))
 
 -- and read through them: a shift and a remainder
-pub window : (l : List ℕ) (b n k w : ℕ) → Small 8 l → k + w ≤ 8 * n → number (take n (drop b l)) / 2 ^ k % 2 ^ w ≡ field lowFirst l (8 * b + k) w
+pub window : (l : List ℕ) (b n k w : ℕ) → Small 8 l → k + w ≤ 8 * n
+    → number (take n (drop b l)) / 2 ^ k % 2 ^ w ≡ field lowFirst l (8 * b + k) w
 window l b n k w h fits =
-    sym (field-number (take n (drop b l)) k w (small-take 8 n (drop b l) (small-drop 8 b l h))) ∙ field-window l b n k w fits
+    sym (field-number (take n (drop b l)) k w (small-take 8 n (drop b l) (small-drop 8 b l h)))
+    ∙ field-window l b n k w fits
 
 -- the bytes from k on, at most eight, make a word
 pub number-short : (s : List ℕ) (k : ℕ) → Small 8 s → length s ≤ k + 8 → number (drop k s) < 2 ^ 64
 number-short s k b h =
-    lt-of-lt-of-le (joined-lt 8 (drop k s) (small-drop 8 k s b)) (pow-mono {i = 8 * length (drop k s)} {j = 64} (omega (arith, length-drop k s)))
+    lt-of-lt-of-le (joined-lt 8 (drop k s) (small-drop 8 k s b))
+    (pow-mono {i = 8 * length (drop k s)} {j = 64} (omega (arith, length-drop k s)))
 
 -- pages that agree byte by byte have the same fields
-pub field-ext : (l k : List ℕ) → ((j : ℕ) → getD l j 0 ≡ getD k j 0) → (o w : ℕ) → field lowFirst l o w ≡ field lowFirst k o w
+pub field-ext : (l k : List ℕ) → ((j : ℕ) → getD l j 0 ≡ getD k j 0) → (o w : ℕ)
+    → field lowFirst l o w ≡ field lowFirst k o w
 unfolding piece bitAt bitOf
 field-ext l k h o zero = refl
-field-ext l k h o (suc w) = ap₂ (λ (x y : ℕ). x + y * 2) (ap (λ (x : ℕ). bit x (o % 8)) (h (o / 8))) (field-ext l k h (suc o) w)
+field-ext l k h o (suc w) =
+    ap₂ (λ (x y : ℕ). x + y * 2) (ap (λ (x : ℕ). bit x (o % 8)) (h (o / 8))) (field-ext l k h (suc o) w)
 
 -- the fields of the part from byte a on
 pub field-drop : (l : List ℕ) (a o w : ℕ) → field lowFirst (drop a l) o w ≡ field lowFirst l (8 * a + o) w

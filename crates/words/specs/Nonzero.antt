@@ -11,7 +11,8 @@ use borrow.Author.Tests.{lt-ltb}
 
 pub any-add : (a b : ℕ) → ltb 0 (a + b) ≡ (ltb 0 a || ltb 0 b)
 any-add zero b = ap (ltb 0) (zero-add b)
-any-add (suc a) b = lt-ltb 0 (suc a + b) (omega arith) ∙ ap (λ (t : Bool). t || ltb 0 b) (sym (lt-ltb 0 (suc a) (omega arith)))
+any-add (suc a) b =
+    lt-ltb 0 (suc a + b) (omega arith) ∙ ap (λ (t : Bool). t || ltb 0 b) (sym (lt-ltb 0 (suc a) (omega arith)))
 
 pub any-mul : (a p : ℕ) → 0 < p → ltb 0 (a * p) ≡ ltb 0 a
 any-mul zero p h = ap (ltb 0) (zero-mul p)

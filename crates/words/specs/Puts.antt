@@ -19,15 +19,25 @@ module _ {A : Type 0} where
   put-none l at = sym (rw (append-nil, add-zero) (take-append-drop at l))
 
   -- one after another
-  pub put-put : (l a b : List A) (at : ℕ) → at + length a + length b ≤ length l → put (put l at a) (at + length a) b ≡ put l at (a ++ b)
+  pub put-put : (l a b : List A) (at : ℕ) → at + length a + length b ≤ length l
+      → put (put l at a) (at + length a) b ≡ put l at (a ++ b)
   unfolding put
   put-put l a b at h =
       let m : ℕ = at + length a in
       let p : length (take at l ++ a) ≡ m = length-append (take at l) a ∙ rw (length-take-le at l (omega arith)) in
-      rw (take-at (take at l ++ a) (drop m l) m p, ← drop-drop, drop-at (take at l ++ a) (drop m l) m p, drop-drop, length-append, ← add-assoc, ← append-assoc)
+      rw (
+        take-at (take at l ++ a) (drop m l) m p,
+        ← drop-drop,
+        drop-at (take at l ++ a) (drop m l) m p,
+        drop-drop,
+        length-append,
+        ← add-assoc,
+        ← append-assoc,
+      )
 
   -- a list is stored, and then another behind it
-  pub put-behind : (l : List A) (at : ℕ) (a b : List A) {l₁ l₂ : List A} {i : ℕ} → l₁ ≡ put l at a → i ≡ at + length a → l₂ ≡ put l₁ i b → at + length a + length b ≤ length l → l₂ ≡ put l at (a ++ b)
+  pub put-behind : (l : List A) (at : ℕ) (a b : List A) {l₁ l₂ : List A} {i : ℕ} → l₁ ≡ put l at a
+      → i ≡ at + length a → l₂ ≡ put l₁ i b → at + length a + length b ≤ length l → l₂ ≡ put l at (a ++ b)
   put-behind l at a b first next second h = second ∙ rw (first, next) (put-put l a b at h)
 
   -- vs was put into l from place `at` on: what is there now, and the next place
@@ -36,11 +46,13 @@ module _ {A : Type 0} where
     pub reached : next ≡ at + length vs
     pub long : length now ≡ length l
 
-  pub stored-first : (l : List A) (at : ℕ) (vs : List A) {now : List A} {next : ℕ} → now ≡ put l at vs → next ≡ at + length vs → at + length vs ≤ length l → Stored l at vs now next
+  pub stored-first : (l : List A) (at : ℕ) (vs : List A) {now : List A} {next : ℕ} → now ≡ put l at vs
+      → next ≡ at + length vs → at + length vs ≤ length l → Stored l at vs now next
   stored-first l at vs e f h = record { stored = e; reached = f; long = ap length e ∙ length-put l at vs h }
 
   -- and more behind it
-  pub stored-behind : {l : List A} {at : ℕ} {a l₁ : List A} {i : ℕ} (b : List A) {l₂ : List A} {j : ℕ} → Stored l at a l₁ i → l₂ ≡ put l₁ i b → j ≡ i + length b
+  pub stored-behind : {l : List A} {at : ℕ} {a l₁ : List A} {i : ℕ} (b : List A) {l₂ : List A} {j : ℕ}
+      → Stored l at a l₁ i → l₂ ≡ put l₁ i b → j ≡ i + length b
       → i + length b ≤ length l₁ → Stored l at (a ++ b) l₂ j
   stored-behind {l} {at} {a} {l₁} {i} b s e f h =
       let size = length-append a b in
@@ -58,16 +70,20 @@ module _ {A : Type 0} where
   set-put l i x h = set-split l i x h ∙ rw (← (add-one i)) (sym (append-snoc (take i l) x (drop (i + 1) l)))
 
   -- one element more behind those that are in place
-  pub put-snoc : (l a : List A) (at i : ℕ) (x : A) → i ≡ at + length a → i < length l → set (put l at a) i x ≡ put l at (a ++ (x ∷ []))
+  pub put-snoc : (l a : List A) (at i : ℕ) (x : A) → i ≡ at + length a → i < length l
+      → set (put l at a) i x ≡ put l at (a ++ (x ∷ []))
   put-snoc l a at i x e h =
       let long : i < length (put l at a) = rw (length-put l at a (omega arith)) h in
-      set-put (put l at a) i x long ∙ ap (λ (k : ℕ). put (put l at a) k (x ∷ [])) e ∙ put-put l a (x ∷ []) at (omega arith)
+      set-put (put l at a) i x long ∙ ap (λ (k : ℕ). put (put l at a) k (x ∷ [])) e
+      ∙ put-put l a (x ∷ []) at (omega arith)
 
   -- a copy's turn
-  pub put-take : (l s : List A) (i : ℕ) (d : A) → i < length l → i < length s → set (put l 0 (take i s)) i (getD s i d) ≡ put l 0 (take (i + 1) s)
+  pub put-take : (l s : List A) (i : ℕ) (d : A) → i < length l → i < length s
+      → set (put l 0 (take i s)) i (getD s i d) ≡ put l 0 (take (i + 1) s)
   put-take l s i d h k =
       let size : length (take i s) ≡ i = length-take-le i s (omega arith) in
-      put-snoc l (take i s) 0 i (getD s i d) (omega arith) h ∙ ap (put l 0) (sym (take-suc s i d k) ∙ ap (λ (n : ℕ). take n s) (sym (add-one i)))
+      put-snoc l (take i s) 0 i (getD s i d) (omega arith) h
+      ∙ ap (put l 0) (sym (take-suc s i d k) ∙ ap (λ (n : ℕ). take n s) (sym (add-one i)))
 
   -- the part of a list from a on, as it is lent, and the list when it is back
   pub part-rest : (l : List A) (a : ℕ) → take (length l - a) (drop a l) ≡ drop a l
@@ -75,7 +91,8 @@ module _ {A : Type 0} where
 
   pub back-rest : (l ys : List A) (a : ℕ) → take a l ++ (ys ++ drop (length l - a) (drop a l)) ≡ take a l ++ ys
   back-rest l ys a =
-      let none : drop (length l - a) (drop a l) ≡ [] = drop-of-length-le (drop a l) {i = length l - a} (simp length-drop (omega arith)) in
+      let none : drop (length l - a) (drop a l) ≡ [] =
+      drop-of-length-le (drop a l) {i = length l - a} (simp length-drop (omega arith)) in
       rw (none, append-nil)
 
   -- what was put at the front of the lent part is put from a on
@@ -84,12 +101,15 @@ module _ {A : Type 0} where
   put-part l vs a = rw (drop-drop, zero-add) (sym (append-assoc (take a l) vs (drop (a + length vs) l)))
 
   -- a part that was lent from a on and came back with vs at its front
-  pub part-put : (l ys vs : List A) (a : ℕ) → ys ≡ put (take (length l - a) (drop a l)) 0 vs → take a l ++ (ys ++ drop (length l - a) (drop a l)) ≡ put l a vs
+  pub part-put : (l ys vs : List A) (a : ℕ) → ys ≡ put (take (length l - a) (drop a l)) 0 vs
+      → take a l ++ (ys ++ drop (length l - a) (drop a l)) ≡ put l a vs
   part-put l ys vs a e =
-      back-rest l ys a ∙ ap (λ (y : List A). take a l ++ y) (e ∙ ap (λ (y : List A). put y 0 vs) (part-rest l a)) ∙ put-part l vs a
+      back-rest l ys a ∙ ap (λ (y : List A). take a l ++ y) (e ∙ ap (λ (y : List A). put y 0 vs) (part-rest l a))
+      ∙ put-part l vs a
 
   -- a list in place of a shorter one in front of what was behind it
-  pub put-longer : (l b c : List A) (a : ℕ) → length b ≤ length c → put (b ++ drop (a + length b) l) 0 c ≡ c ++ drop (a + length c) l
+  pub put-longer : (l b c : List A) (a : ℕ) → length b ≤ length c
+      → put (b ++ drop (a + length b) l) 0 c ≡ c ++ drop (a + length c) l
   unfolding put
   put-longer l b c a h =
       let k : ℕ = length c - length b in
@@ -114,10 +134,12 @@ module _ {A : Type 0} where
       let front : length (take p l) ≡ p = length-take-le p l h in
       let rest : List A = put (drop p l) 0 a in
       sym (put-part (put l p a) b p) ∙ ap (λ (k : List A). take p k ++ put (drop p k) 0 b) (sym (put-part l a p))
-      ∙ rw (take-at (take p l) rest p front, drop-at (take p l) rest p front, over-front (drop p l) a b few) (put-part l b p)
+      ∙ rw (take-at (take p l) rest p front, drop-at (take p l) rest p front, over-front (drop p l) a b few)
+      (put-part l b p)
 
   -- or over its end, and past it
-  pub put-end : (l u v w : List A) (at i : ℕ) → i ≡ at + length u → i + length w ≤ length l → length v ≤ length w → put (put l at (u ++ v)) i w ≡ put l at (u ++ w)
+  pub put-end : (l u v w : List A) (at i : ℕ) → i ≡ at + length u → i + length w ≤ length l → length v ≤ length w
+      → put (put l at (u ++ v)) i w ≡ put l at (u ++ w)
   put-end l u v w at i e h few =
       ap (λ (k : ℕ). put (put l at (u ++ v)) k w) e
       ∙ ap (λ (k : List A). put k (at + length u) w) (sym (put-put l u v at (omega arith)))

@@ -1,4 +1,5 @@
--- The laws of `someBelow`: that some number below n passes, or that none does, said of each; of tests that agree, and of one range behind another.
+-- The laws of `someBelow`: that some number below n passes, or that none does, said of each; of tests that agree,
+-- and of one range behind another.
 use mathlib.Core.Path.{_≡_, refl, sym, ap, ap₂, _∙_}
 use mathlib.Core.Bool.{Bool, true, false, _||_, true≢false, or-assoc, or-false}
 use Prim.Native.Nat.{ℕ, zero, suc, _+_, _*_, _<_}
@@ -10,7 +11,8 @@ use Rattle.words.specs.Tests.{neither}
 pub none-below : (n : ℕ) (test : ℕ → Bool) → ((k : ℕ) → k < n → test k ≡ false) → someBelow n test ≡ false
 unfolding someBelow
 none-below zero test h = refl
-none-below (suc n) test h = ap₂ _||_ (h zero (omega arith)) (none-below n (λ k. test (suc k)) (λ k l. h (suc k) (omega arith)))
+none-below (suc n) test h =
+    ap₂ _||_ (h zero (omega arith)) (none-below n (λ k. test (suc k)) (λ k l. h (suc k) (omega arith)))
 
 pub below-none : (n : ℕ) (test : ℕ → Bool) → someBelow n test ≡ false → (k : ℕ) → k < n → test k ≡ false
 unfolding someBelow
@@ -40,13 +42,15 @@ some-add zero m f = some-ext m (λ k h. ap f (zero-add k)) ∙ ap (λ (k : ℕ).
 some-add (suc n) m f =
     or-assoc (f zero) (someBelow n (λ k. f (suc k))) (someBelow m (λ k. f (suc n + k)))
     ∙ ap (λ (t : Bool). f zero || t)
-    (ap (λ (t : Bool). someBelow n (λ k. f (suc k)) || t) (some-ext m (λ k h. ap f (suc-add n k))) ∙ some-add n m (λ k. f (suc k)))
+    (ap (λ (t : Bool). someBelow n (λ k. f (suc k)) || t) (some-ext m (λ k h. ap f (suc-add n k)))
+    ∙ some-add n m (λ k. f (suc k)))
     ∙ ap (λ (k : ℕ). someBelow k f) (sym (suc-add n m))
 
 -- and one more
 pub some-next : (n : ℕ) (f : ℕ → Bool) → (someBelow n f || f n) ≡ someBelow (n + 1) f
 unfolding someBelow
-some-next n f = ap (λ (t : Bool). someBelow n f || t) (ap f (sym (add-zero n)) ∙ sym (or-false (f (n + 0)))) ∙ some-add n 1 f
+some-next n f =
+    ap (λ (t : Bool). someBelow n f || t) (ap f (sym (add-zero n)) ∙ sym (or-false (f (n + 0)))) ∙ some-add n 1 f
 
 -- m times the same
 pub some-same : (m : ℕ) (t : Bool) → 0 < m → someBelow m (λ _. t) ≡ t
@@ -54,13 +58,15 @@ some-same m true h = some-below m (λ _. true) 0 h refl
 some-same m false h = none-below m (λ _. false) (λ k l. refl)
 
 -- the even ones and the odd ones
-pub some-halves : (n : ℕ) (f : ℕ → Bool) → (someBelow n (λ k. f (2 * k)) || someBelow n (λ k. f (2 * k + 1))) ≡ someBelow (2 * n) f
+pub some-halves : (n : ℕ) (f : ℕ → Bool)
+    → (someBelow n (λ k. f (2 * k)) || someBelow n (λ k. f (2 * k + 1))) ≡ someBelow (2 * n) f
 unfolding someBelow
 some-halves zero f = refl
 some-halves (suc n) f =
     let even : (k : ℕ) → 2 * suc k ≡ suc (suc (2 * k)) = λ k. omega arith in
     let odd : (k : ℕ) → 2 * suc k + 1 ≡ suc (suc (2 * k + 1)) = λ k. omega arith in
-    ap₂ (λ (s t : Bool). (f 0 || s) || (f 1 || t)) (some-ext n (λ k h. ap f (even k))) (some-ext n (λ k h. ap f (odd k)))
+    ap₂ (λ (s t : Bool). (f 0 || s) || (f 1 || t)) (some-ext n (λ k h. ap f (even k)))
+    (some-ext n (λ k h. ap f (odd k)))
     ∙ in-turn (f 0) (f 1) _ _
     ∙ ap (λ (t : Bool). f 0 || (f 1 || t)) (some-halves n (λ k. f (suc (suc k))))
     ∙ ap (λ (k : ℕ). someBelow k f) (sym (even n))

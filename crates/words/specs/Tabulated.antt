@@ -35,14 +35,16 @@ module _ {A : Type 0} where
   unfolding tabulate
   tabulate-ext zero f g h = refl
   tabulate-ext (suc n) f g h =
-      ap₂ (λ (x : A) (l : List A). x ∷ l) (h zero (omega arith)) (tabulate-ext n (λ k. f (suc k)) (λ k. g (suc k)) (λ i l. h (suc i) (omega arith)))
+      ap₂ (λ (x : A) (l : List A). x ∷ l) (h zero (omega arith))
+      (tabulate-ext n (λ k. f (suc k)) (λ k. g (suc k)) (λ i l. h (suc i) (omega arith)))
 
   -- the same in every place
   pub tabulate-same : (n : ℕ) (f : ℕ → A) (x : A) → ((i : ℕ) → i < n → f i ≡ x) → tabulate n f ≡ replicate n x
   unfolding tabulate
   tabulate-same zero f x h = refl
   tabulate-same (suc n) f x h =
-      ap₂ (λ (y : A) (l : List A). y ∷ l) (h zero (omega arith)) (tabulate-same n (λ k. f (suc k)) x (λ i l. h (suc i) (omega arith)))
+      ap₂ (λ (y : A) (l : List A). y ∷ l) (h zero (omega arith))
+      (tabulate-same n (λ k. f (suc k)) x (λ i l. h (suc i) (omega arith)))
 
   -- a list, place by place
   pub tabulate-list : (l : List A) (d : A) → tabulate (length l) (λ i. getD l i d) ≡ l
@@ -68,7 +70,8 @@ module _ {A : Type 0} where
       let u : List A = tabulate n f in
       let v : List A = tabulate m (λ k. f (n + k)) in
       let size : at + n ≡ at + length u = omega (arith, length-tabulate n f) in
-      ap (λ (k : ℕ). put (put l at u) k v) size ∙ put-put l u v at (omega (arith, length-tabulate n f, length-tabulate m (λ k. f (n + k))))
+      ap (λ (k : ℕ). put (put l at u) k v) size
+      ∙ put-put l u v at (omega (arith, length-tabulate n f, length-tabulate m (λ k. f (n + k))))
       ∙ ap (put l at) (sym (tabulate-add n m f))
 
   pub put-tabulate-add : (l : List A) (n m : ℕ) (f : ℕ → A) → n + m ≤ length l
@@ -76,11 +79,14 @@ module _ {A : Type 0} where
   put-tabulate-add l n m f h = rw (zero-add n) at (put-tabulate-on l 0 n m f (omega arith))
 
   -- n places from `at` on are filled, and one more is stored
-  pub put-tabulate-at : (l : List A) (at n : ℕ) (f : ℕ → A) → at + n < length l → set (put l at (tabulate n f)) (at + n) (f n) ≡ put l at (tabulate (n + 1) f)
+  pub put-tabulate-at : (l : List A) (at n : ℕ) (f : ℕ → A) → at + n < length l
+      → set (put l at (tabulate n f)) (at + n) (f n) ≡ put l at (tabulate (n + 1) f)
   put-tabulate-at l at n f h =
-      put-snoc l (tabulate n f) at (at + n) (f n) (omega (arith, length-tabulate n f)) h ∙ ap (put l at) (sym (tabulate-snoc n f))
+      put-snoc l (tabulate n f) at (at + n) (f n) (omega (arith, length-tabulate n f)) h
+      ∙ ap (put l at) (sym (tabulate-snoc n f))
 
-  pub put-tabulate : (l : List A) (n : ℕ) (f : ℕ → A) → n < length l → set (put l 0 (tabulate n f)) n (f n) ≡ put l 0 (tabulate (n + 1) f)
+  pub put-tabulate : (l : List A) (n : ℕ) (f : ℕ → A) → n < length l
+      → set (put l 0 (tabulate n f)) n (f n) ≡ put l 0 (tabulate (n + 1) f)
   put-tabulate l n f h = rw (zero-add n) at (put-tabulate-at l 0 n f (omega arith))
 
 -- what is tabulated is small where the function is

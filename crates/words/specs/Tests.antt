@@ -3,7 +3,8 @@ use mathlib.Core.Path.{_≡_, refl, sym}
 use mathlib.Core.Bool.{Bool, true, false, cond, _&&_, _||_, true≢false}
 
 -- what both ways of a test give, the test gives
-pub either : {A : Type 0} {x y : A} (P : A → Type 0) (test : Bool) → (test ≡ true → P x) → (test ≡ false → P y) → P (cond test x y)
+pub either : {A : Type 0} {x y : A} (P : A → Type 0) (test : Bool) → (test ≡ true → P x) → (test ≡ false → P y)
+    → P (cond test x y)
 either P true f g = f refl
 either P false f g = g refl
 

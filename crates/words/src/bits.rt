@@ -14,10 +14,14 @@ fn head(part: &[u8], r: u32) -> u64
     part[0] as u64 % (1 << r)
 }
 
-// Keeps the r low bits of the part's first byte, and puts m bits behind them, with 0 for what is left of the last byte.
+// Keeps the r low bits of the part's first byte, and puts m bits behind them, with 0 for what is left of
+// the last byte.
 fn append(part: &mut [u8], r: u32, x: u64, m: u32)
-    requires { ⌜ (r < 8) × (m ≤ 56) × (x < 2 ^ m) × (0 < length (now part)) × (ceil (r + m) 8 ≤ length (now part)) ⌝ }
-    ensures { λ _. ⌜ now (part .exit) ≡ put (now (part .entry)) 0 (bytes (ceil (r + m) 8) (x * 2 ^ r + getD (now (part .entry)) 0 0 % 2 ^ r)) ⌝ }
+    requires { ⌜ (r < 8) × (m ≤ 56) × (x < 2 ^ m) × (0 < length (now part))
+        × (ceil (r + m) 8 ≤ length (now part)) ⌝ }
+    ensures { λ _. ⌜ now (part .exit)
+        ≡ put (now (part .entry)) 0
+        (bytes (ceil (r + m) 8) (x * 2 ^ r + getD (now (part .entry)) 0 0 % 2 ^ r)) ⌝ }
 {
     let low = head(part, r);
     store_low(part, 0, (x << r) + low, ((r + m + 7) / 8) as usize);

@@ -14,22 +14,16 @@ returns c =
     let a = c .before .args in
     judged-found _ (bandOf (a .op) (a .a) (a .b)) (c .if1 .taken)
 
-band-of-requires : tie.Need-band-of-requires
-band-of-requires c κs = search needs
-
-enum-known-comparison : tie.Need-enum-known-comparison
-enum-known-comparison c = search needs
-
 -- the constants come through the call as they are, and the limits are kept
-judgement : (c : tie.After-band-of) → let a = c .before .before .args in judged 0 (c .band-of .result) ≡ argumentsOf (a .limits) (a .op) (a .a) (a .b)
+judgement : (c : tie.After-band-of)
+    → let a = c .before .before .args in
+    judged 0 (c .band-of .result) ≡ argumentsOf (a .limits) (a .op) (a .a) (a .b)
 unfolding argumentsOf
 judgement c =
     let s = c .before .before in
-    let chosen = rw (toZ-ofZ w64 (s .args .a) (s .fits .a), toZ-ofZ w64 (s .args .b) (s .fits .b)) at (c .band-of .ensures) in
+    let chosen =
+    rw (toZ-ofZ w64 (s .args .a) (s .fits .a), toZ-ofZ w64 (s .args .b) (s .fits .b)) at (c .band-of .ensures) in
     ap₂ judged (sym (c .before .if1 .left)) chosen
-
-enum-told : tie.Need-enum-told
-enum-told c = search needs
 
 returns-2 : tie.Need-returns-2
 unfolding judged
@@ -43,9 +37,4 @@ pub arguments-after-spec : {M : Type 1} → statement M
 arguments-after-spec =
     tie.close
     (tie.spec
-    returns
-    band-of-requires
-    enum-known-comparison
-    enum-told
-    returns-2
-    returns-3)
+    returns (λ c κs. search needs) (λ c. search needs) (λ c. search needs) returns-2 returns-3)

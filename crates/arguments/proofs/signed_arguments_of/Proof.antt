@@ -5,17 +5,15 @@ use borrow.Author.Needs.{needs}
 use Rattle.arguments.proofs.signed_arguments_of.Statement.{statement}
 use Rattle.arguments.proofs.signed_arguments_of.Tie as tie
 
-signed-fault-requires : tie.Need-signed-fault-requires
-signed-fault-requires c κs = search needs
-
-arguments-after-requires : tie.Need-arguments-after-requires
-arguments-after-requires c κs = search needs
-
 -- the constants come through the call as they are
 returns : tie.Need-returns
 returns c =
     let s = c .before .before in
-    rw (toZ-ofZ w64 (s .args .a) (s .fits .a), toZ-ofZ w64 (s .args .b) (s .fits .b), c .before .signed-fault .ensures) at (c .arguments-after .ensures)
+    rw (
+      toZ-ofZ w64 (s .args .a) (s .fits .a),
+      toZ-ofZ w64 (s .args .b) (s .fits .b),
+      c .before .signed-fault .ensures,
+    ) at (c .arguments-after .ensures)
 
 pub signed-arguments-of-spec : {M : Type 1} → statement M
-signed-arguments-of-spec = tie.close (tie.spec signed-fault-requires arguments-after-requires returns)
+signed-arguments-of-spec = tie.close (tie.spec (λ c κs. search needs) (λ c κs. search needs) returns)

@@ -25,16 +25,9 @@ unfolding bitAt bitOf
 returns c =
     let s = c .before in
     let i = s .args .i in
-    sym (ap (λ (x : ℕ). bit x (i % 8)) (List·getD-eq-default (s .args .bitmap .now) 0 {n = i / 8} (omega arith)) ∙ bit-of-zero (i % 8))
-
-shared-slice-read-result : tie.Need-shared-slice-read-result
-shared-slice-read-result c = search needs
-
-cast-result : tie.Need-cast-result
-cast-result c = search needs
-
-shr-result : tie.Need-shr-result
-shr-result c = search needs
+    sym
+    (ap (λ (x : ℕ). bit x (i % 8)) (List·getD-eq-default (s .args .bitmap .now) 0 {n = i / 8} (omega arith))
+    ∙ bit-of-zero (i % 8))
 
 returns-2 : tie.Need-returns-2
 unfolding bitAt bitOf bit
@@ -45,4 +38,4 @@ returns-2 c =
 
 pub is-set-spec : {M : Type 1} → statement M
 is-set-spec =
-    tie.close (tie.spec returns shared-slice-read-result cast-result shr-result returns-2)
+    tie.close (tie.spec returns (λ c. search needs) (λ c. search needs) (λ c. search needs) returns-2)

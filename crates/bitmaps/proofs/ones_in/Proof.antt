@@ -10,7 +10,8 @@ use Rattle.bitmaps.proofs.ones_in.Statement.{statement}
 use Rattle.bitmaps.proofs.ones_in.Tie as tie
 
 abbrev Inv-loop : tie.InvT-loop
-Inv-loop bitmap m words ones₀ k₀ ones k = (words ≡ m / 8) × (k ≤ words) × (ones ≤ 8 * (8 * k)) × (ones ≡ countOnes (take (8 * k) bitmap))
+Inv-loop bitmap m words ones₀ k₀ ones k =
+    (words ≡ m / 8) × (k ≤ words) × (ones ≤ 8 * (8 * k)) × (ones ≡ countOnes (take (8 * k) bitmap))
 
 abbrev μ-loop : tie.MeasureT-loop
 μ-loop bitmap m words ones₀ k₀ ones k = words - k
@@ -25,32 +26,19 @@ loop-holds : tie.Need-loop-holds Inv-loop μ-loop Inv-loop2 μ-loop2
 unfolding countOnes
 loop-holds c = omega arith
 
-mul-load8 : tie.Need-mul-load8 Inv-loop μ-loop Inv-loop2 μ-loop2
-mul-load8 c = omega arith
-
-load8-requires : tie.Need-load8-requires Inv-loop μ-loop Inv-loop2 μ-loop2
-load8-requires c κs = omega arith
-
 add-ones : tie.Need-add-ones Inv-loop μ-loop Inv-loop2 μ-loop2
 add-ones c = omega (arith, ones-le 64 (c .load8 .result) (omega arith))
-
-add-k : tie.Need-add-k Inv-loop μ-loop Inv-loop2 μ-loop2
-add-k c = omega arith
-
-loop-less : tie.Need-loop-less Inv-loop μ-loop Inv-loop2 μ-loop2
-loop-less c = omega arith
 
 loop-again : tie.Need-loop-again Inv-loop μ-loop Inv-loop2 μ-loop2
 loop-again c =
     let a = c .before .before .before .before .args in
     let l = c .before .before .loop in
     let most : ones (c .load8 .result) ≤ 64 = ones-le 64 (c .load8 .result) (omega arith) in
-    let more = count-take (a .bitmap .now) (8 * l .k) 8 (λ i. c .before .before .before .shared-slice-known .given i .fits) in
+    let more =
+    count-take (a .bitmap .now) (8 * l .k) 8 (λ i. c .before .before .before .shared-slice-known .given i .fits)
+    in
     let next : 8 * (l .k + 1) ≡ 8 * l .k + 8 = omega arith in
     (omega arith, omega arith, omega arith, rw next (omega (arith, more, ap ones (c .load8 .ensures))))
-
-mul-i : tie.Need-mul-i Inv-loop μ-loop Inv-loop2 μ-loop2
-mul-i c = omega arith
 
 loop2-holds : tie.Need-loop2-holds Inv-loop μ-loop Inv-loop2 μ-loop2
 loop2-holds c =
@@ -58,28 +46,25 @@ loop2-holds c =
     let all : l .k ≡ c .before .before .before .args .m / 8 = omega arith in
     (omega arith, omega arith, rw (← all) (l .inv .3))
 
-shared-slice-read-ones : tie.Need-shared-slice-read-ones Inv-loop μ-loop Inv-loop2 μ-loop2
-shared-slice-read-ones c = omega arith
-
 byte : (c : tie.After-shared-slice-known2 Inv-loop μ-loop Inv-loop2 μ-loop2)
-    → ones (getD (c .before .before .before .before .before .before .args .bitmap .now) (c .before .before .loop2 .i) 0) ≤ 8
+    → ones
+    (getD (c .before .before .before .before .before .before .args .bitmap .now) (c .before .before .loop2 .i)
+    0) ≤ 8
 byte c = ones-le 8 _ (c .shared-slice-known2 .given (c .before .before .loop2 .i) .fits)
 
 add-ones-2 : tie.Need-add-ones-2 Inv-loop μ-loop Inv-loop2 μ-loop2
 add-ones-2 c = omega (arith, byte c)
 
-add-i : tie.Need-add-i Inv-loop μ-loop Inv-loop2 μ-loop2
-add-i c = omega arith
-
-loop2-less : tie.Need-loop2-less Inv-loop μ-loop Inv-loop2 μ-loop2
-loop2-less c = omega arith
-
 loop2-again : tie.Need-loop2-again Inv-loop μ-loop Inv-loop2 μ-loop2
 loop2-again c =
     let s = c .before .before .before .before .before .before .args .bitmap .now in
     let i = c .before .before .loop2 .i in
-    omega
-    (arith, byte c, count-take s i 1 (λ k. c .shared-slice-known2 .given k .fits), ap ones (number-one s i (omega arith)))
+    omega (
+      arith,
+      byte c,
+      count-take s i 1 (λ k. c .shared-slice-known2 .given k .fits),
+      ap ones (number-one s i (omega arith)),
+    )
 
 returns : tie.Need-returns Inv-loop μ-loop Inv-loop2 μ-loop2
 returns c =
@@ -91,22 +76,6 @@ pub ones-in-spec : {M : Type 1} → statement M
 ones-in-spec =
     tie.close
     (tie.spec
-    Inv-loop
-    μ-loop
-    Inv-loop2
-    μ-loop2
-    loop-holds
-    mul-load8
-    load8-requires
-    add-ones
-    add-k
-    loop-less
-    loop-again
-    mul-i
-    loop2-holds
-    shared-slice-read-ones
-    add-ones-2
-    add-i
-    loop2-less
-    loop2-again
-    returns)
+    Inv-loop μ-loop Inv-loop2 μ-loop2 loop-holds (λ c. omega arith) (λ c κs. omega arith) add-ones
+    (λ c. omega arith) (λ c. omega arith) loop-again (λ c. omega arith) loop2-holds (λ c. omega arith)
+    add-ones-2 (λ c. omega arith) (λ c. omega arith) loop2-again returns)

@@ -13,38 +13,18 @@ returns : tie.Need-returns
 returns c =
     trim-none (c .before .args .n) (c .before .args .bitmap .now) (eq-eqb (c .before .args .n % 8) 0 (c .if1 .taken))
 
-slice-read-bitmap : tie.Need-slice-read-bitmap
-slice-read-bitmap c = search needs
-
-cast-bitmap : tie.Need-cast-bitmap
-cast-bitmap c = search needs
-
-shl-bitmap : tie.Need-shl-bitmap
-shl-bitmap c = search needs
-
 rem-bitmap : tie.Need-rem-bitmap
 rem-bitmap c =
     rw (one-shl 8 (c .before .before .args .n % 8) (omega arith)) (pow-pos (c .before .before .args .n % 8))
 
-slice-write-bitmap : tie.Need-slice-write-bitmap
-slice-write-bitmap c = search needs
-
-same-length : tie.Need-same-length
-same-length c = search needs
-
 returns-2 : tie.Need-returns-2
 returns-2 c =
-    trim-some (c .before .before .args .n) (c .before .before .args .bitmap .now) (ne-eqb (c .before .before .args .n % 8) 0 (c .before .if1 .left))
+    trim-some (c .before .before .args .n) (c .before .before .args .bitmap .now)
+    (ne-eqb (c .before .before .args .n % 8) 0 (c .before .if1 .left))
 
 pub trim-spec : {M : Type 1} → statement M
 trim-spec =
     tie.close
     (tie.spec
-    returns
-    slice-read-bitmap
-    cast-bitmap
-    shl-bitmap
-    rem-bitmap
-    slice-write-bitmap
-    same-length
-    returns-2)
+    returns (λ c. search needs) (λ c. search needs) (λ c. search needs) rem-bitmap (λ c. search needs)
+    (λ c. search needs) returns-2)

@@ -5,14 +5,8 @@ use Rattle.rules.specs.Answer.{countFault}
 use Rattle.limits.proofs.signed_fault.Statement.{statement}
 use Rattle.limits.proofs.signed_fault.Tie as tie
 
-new-requires : tie.Need-new-requires
-new-requires c κs = search needs
-
-fault-requires : tie.Need-fault-requires
-fault-requires c κs = search needs
-
 returns : tie.Need-returns
 returns c = c .fault .ensures ∙ ap countFault (c .before .new .ensures)
 
 pub signed-fault-spec : {M : Type 1} → statement M
-signed-fault-spec = tie.close (tie.spec new-requires fault-requires returns)
+signed-fault-spec = tie.close (tie.spec (λ c κs. search needs) (λ c κs. search needs) returns)

@@ -5,14 +5,8 @@ use Rattle.rules.specs.Answer.{limitFault}
 use Rattle.limits.proofs.unsigned_fault.Statement.{statement}
 use Rattle.limits.proofs.unsigned_fault.Tie as tie
 
-new-requires : tie.Need-new-requires
-new-requires c κs = search needs
-
-fault-requires : tie.Need-fault-requires
-fault-requires c κs = search needs
-
 returns : tie.Need-returns
 returns c = c .fault .ensures ∙ ap₂ limitFault (c .before .new .ensures .0) (c .before .new .ensures .1)
 
 pub unsigned-fault-spec : {M : Type 1} → statement M
-unsigned-fault-spec = tie.close (tie.spec new-requires fault-requires returns)
+unsigned-fault-spec = tie.close (tie.spec (λ c κs. search needs) (λ c κs. search needs) returns)

@@ -14,36 +14,10 @@ Inv-loop page a rest₀ n i₀ rest i =
     (i ≤ n) × (length rest ≡ length rest₀) × (rest ≡ put rest₀ 0 (take i (drop a page)))
 
 abbrev μ-loop : tie.MeasureT-loop
-μ-loop page a rest₀ n i₀ rest i =
-    n - i
-
-sub-n : tie.Need-sub-n Inv-loop μ-loop
-sub-n c =
-    omega arith
+μ-loop page a rest₀ n i₀ rest i = n - i
 
 loop-holds : tie.Need-loop-holds Inv-loop μ-loop
-loop-holds c =
-    (omega arith, omega arith, put-none (c .args .rest .now) 0)
-
-add-rest : tie.Need-add-rest Inv-loop μ-loop
-add-rest c =
-    omega arith
-
-shared-slice-read-rest : tie.Need-shared-slice-read-rest Inv-loop μ-loop
-shared-slice-read-rest c =
-    omega arith
-
-slice-write-rest : tie.Need-slice-write-rest Inv-loop μ-loop
-slice-write-rest c =
-    omega arith
-
-add-i : tie.Need-add-i Inv-loop μ-loop
-add-i c =
-    omega arith
-
-loop-less : tie.Need-loop-less Inv-loop μ-loop
-loop-less c =
-    omega arith
+loop-holds c = (omega arith, omega arith, put-none (c .args .rest .now) 0)
 
 loop-again : tie.Need-loop-again Inv-loop μ-loop
 loop-again c =
@@ -53,32 +27,21 @@ loop-again c =
     let size : length s ≡ length (a .page .now) - a .a = length-drop (a .a) (a .page .now) in (
       omega arith,
       simp length-set (l .inv .1),
-      rw (l .inv .2, ← (getD-drop (a .a) (a .page .now) (l .i) 0)) (put-take (a .rest .now) s (l .i) 0 (omega arith) (omega arith)),
+      rw (l .inv .2, ← (getD-drop (a .a) (a .page .now) (l .i) 0))
+          (put-take (a .rest .now) s (l .i) 0 (omega arith) (omega arith)),
     )
-
-same-length : tie.Need-same-length Inv-loop μ-loop
-same-length c =
-    omega arith
 
 returns : tie.Need-returns Inv-loop μ-loop
 returns c =
     let a = c .before .before .args in
     let s = drop (a .a) (a .page .now) in
-    c .before .loop .inv .2 ∙ ap (put (a .rest .now) 0) (take-all (c .before .loop .i) s (rw (length-drop (a .a) (a .page .now)) (omega arith)))
+    c .before .loop .inv .2
+    ∙ ap (put (a .rest .now) 0)
+    (take-all (c .before .loop .i) s (rw (length-drop (a .a) (a .page .now)) (omega arith)))
 
 pub copy-spec : {M : Type 1} → statement M
 copy-spec =
     tie.close
     (tie.spec
-    Inv-loop
-    μ-loop
-    sub-n
-    loop-holds
-    add-rest
-    shared-slice-read-rest
-    slice-write-rest
-    add-i
-    loop-less
-    loop-again
-    same-length
-    returns)
+    Inv-loop μ-loop (λ c. omega arith) loop-holds (λ c. omega arith) (λ c. omega arith) (λ c. omega arith)
+    (λ c. omega arith) (λ c. omega arith) loop-again (λ c. omega arith) returns)

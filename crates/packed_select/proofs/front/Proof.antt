@@ -12,21 +12,16 @@ returns : tie.Need-returns
 returns c =
     let s = c .before .before .before in
     let a = s .args in
-    none-front (a .bitmap .now) (a .page .now) (a .w) (ranging (a .low) (a .span) (a .flip)) (a .q) (omega (arith, ap (λ w. a .q * w) (c .if1 .taken)))
+    none-front (a .bitmap .now) (a .page .now) (a .w) (ranging (a .low) (a .span) (a .flip)) (a .q)
+    (omega (arith, ap (λ w. a .q * w) (c .if1 .taken)))
 
 returns-2 : tie.Need-returns-2
 returns-2 c =
     let a = c .before .before .before .before .args in
     none-front (a .bitmap .now) (a .page .now) (a .w) (ranging (a .low) (a .span) (a .flip)) (a .q) (omega arith)
 
-groups-within-requires : tie.Need-groups-within-requires
-groups-within-requires c κs = omega arith
-
 select-groups-requires : tie.Need-select-groups-requires
 select-groups-requires c κs = omega (arith, c .before .groups-within .ensures)
-
-same-length : tie.Need-same-length
-same-length c = search needs
 
 returns-3 : tie.Need-returns-3
 returns-3 c = (omega (arith, c .before .before .before .before .groups-within .ensures), cc)
@@ -35,9 +30,4 @@ pub front-spec : {M : Type 1} → statement M
 front-spec =
     tie.close
     (tie.spec
-    returns
-    returns-2
-    groups-within-requires
-    select-groups-requires
-    same-length
-    returns-3)
+    returns returns-2 (λ c κs. omega arith) select-groups-requires (λ c. search needs) returns-3)

@@ -1,4 +1,5 @@
--- `packed_select::groups_within` meets its contract: all q groups, or a quotient's, which end eight bytes before the end.
+-- `packed_select::groups_within` meets its contract: all q groups, or a quotient's, which end eight bytes before
+-- the end.
 use native.Mathlib.Nat.{mul-le-mul}
 use native.Mathlib.Omega.{arith}
 use borrow.Author.Needs.{needs}
@@ -7,22 +8,15 @@ use Rattle.packed_select.proofs.groups_within.Statement.{statement}
 use Rattle.packed_select.proofs.groups_within.Tie as tie
 
 mul-if1 : tie.Need-mul-if1
-mul-if1 c = omega (arith, mul-le-mul {n₁ = c .args .q} {m₁ = c .args .w} {n₂ = 2048} {m₂ = 32} (omega arith) (omega arith))
+mul-if1 c =
+    omega (arith, mul-le-mul {n₁ = c .args .q} {m₁ = c .args .w} {n₂ = 2048} {m₂ = 32} (omega arith) (omega arith))
 
 add-if1 : tie.Need-add-if1
-add-if1 c = omega (arith, mul-le-mul {n₁ = c .args .q} {m₁ = c .args .w} {n₂ = 2048} {m₂ = 32} (omega arith) (omega arith))
+add-if1 c =
+    omega (arith, mul-le-mul {n₁ = c .args .q} {m₁ = c .args .w} {n₂ = 2048} {m₂ = 32} (omega arith) (omega arith))
 
 returns : tie.Need-returns
 returns c = omega arith
-
-sub-min : tie.Need-sub-min
-sub-min c = search needs
-
-div-min : tie.Need-div-min
-div-min c = search needs
-
-min-requires : tie.Need-min-requires
-min-requires c κs = search needs
 
 returns-2 : tie.Need-returns-2
 returns-2 c =
@@ -31,4 +25,6 @@ returns-2 c =
 
 pub groups-within-spec : {M : Type 1} → statement M
 groups-within-spec =
-    tie.close (tie.spec mul-if1 add-if1 returns sub-min div-min min-requires returns-2)
+    tie.close
+    (tie.spec
+    mul-if1 add-if1 returns (λ c. search needs) (λ c. search needs) (λ c κs. search needs) returns-2)

@@ -10,9 +10,6 @@ use Rattle.packed_select.specs.TwoPieces.{page-le, tail-small, all-selec
 use Rattle.packed_select.proofs.select.Statement.{statement}
 use Rattle.packed_select.proofs.select.Tie as tie
 
-add-q : tie.Need-add-q
-add-q c = search needs
-
 front-requires : tie.Need-front-requires
 front-requires c κs =
     let s = c .before .before .before in
@@ -20,21 +17,6 @@ front-requires c κs =
     let q = (a .n + 7) / 8 in
     let len = length (a .page .now) in
     omega (arith, page-le (a .n) (a .w) q len refl (s .pre .2) (s .pre .3))
-
-mul-tail : tie.Need-mul-tail
-mul-tail c = search needs
-
-sub-tail : tie.Need-sub-tail
-sub-tail c = search needs
-
-part-tail-start : tie.Need-part-tail-start
-part-tail-start c = search needs
-
-part-tail-end : tie.Need-part-tail-end
-part-tail-end c = search needs
-
-sub-tail-2 : tie.Need-sub-tail-2
-sub-tail-2 c = search needs
 
 tail-requires : tie.Need-tail-requires
 tail-requires c κs =
@@ -45,33 +27,26 @@ tail-requires c κs =
     let m = c .before .before .before .front .result in
     let l = c .before .before .before .front .last .1 .0 in
     let part : length (take (length l - m) (drop m l)) ≡ length l - m = ap length (part-rest l m) ∙ length-drop m l in
-    omega (arith, tail-small (a .n) (a .w) q len refl (s .pre .2) (s .pre .3) m (omega arith) (omega arith) (omega arith))
-
-trim-requires : tie.Need-trim-requires
-trim-requires c κs = search needs
-
-same-length : tie.Need-same-length
-same-length c = search needs
+    omega (
+      arith,
+      tail-small (a .n) (a .w) q len refl (s .pre .2) (s .pre .3) m (omega arith) (omega arith) (omega arith),
+    )
 
 returns : tie.Need-returns
 returns c =
-    let a = c .before .before .before .before .before .before .before .before .before .before .before .before .before .before .args in
+    let a =
+    c .before .before .before .before .before .before .before .before .before .before .before .before .before
+    .before .args in
     let front = c .before .before .before .before .before .before .before .before .before .before .front in
-    all-selected (a .bitmap .now) (a .page .now) (a .w) (ranged (a .range)) _ _ _ (a .n) (front .result) ((a .n + 7) / 8)
-    refl (omega arith) (omega arith) (front .ensures .1) (c .before .before .before .before .before .before .tail .ensures) (c .before .before .trim .ensures)
+    all-selected (a .bitmap .now) (a .page .now) (a .w) (ranged (a .range)) _ _ _ (a .n) (front .result)
+    ((a .n + 7) / 8)
+    refl (omega arith) (omega arith) (front .ensures .1)
+    (c .before .before .before .before .before .before .tail .ensures) (c .before .before .trim .ensures)
 
 pub select-spec : {M : Type 1} → statement M
 select-spec =
     tie.close
     (tie.spec
-    add-q
-    front-requires
-    mul-tail
-    sub-tail
-    part-tail-start
-    part-tail-end
-    sub-tail-2
-    tail-requires
-    trim-requires
-    same-length
+    (λ c. search needs) front-requires (λ c. search needs) (λ c. search needs) (λ c. search needs)
+    (λ c. search needs) (λ c. search needs) tail-requires (λ c κs. search needs) (λ c. search needs)
     returns)

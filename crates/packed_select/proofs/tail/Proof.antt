@@ -14,38 +14,23 @@ use Rattle.packed_select.proofs.tail.Tie as tie
 returns : tie.Need-returns
 returns c =
     let a = c .before .before .before .args in
-    rw (c .if1 .taken) (none-selected (a .bitmap .now) (drop (a .a) (a .page .now)) (a .w) (ranging (a .low) (a .span) (a .flip)))
-
-slice-aggregate-copy : tie.Need-slice-aggregate-copy
-slice-aggregate-copy c = search needs
-
-copy-requires : tie.Need-copy-requires
-copy-requires c κs = search needs
-
-slice-aggregate-select-groups : tie.Need-slice-aggregate-select-groups
-slice-aggregate-select-groups c = search needs
-
-select-groups-requires : tie.Need-select-groups-requires
-select-groups-requires c κs = search needs
-
-same-length : tie.Need-same-length
-same-length c = search needs
+    rw (c .if1 .taken)
+    (none-selected (a .bitmap .now) (drop (a .a) (a .page .now)) (a .w) (ranging (a .low) (a .span) (a .flip)))
 
 returns-2 : tie.Need-returns-2
 returns-2 c =
     let a = c .before .before .before .before .before .before .before .before .before .before .before .args in
     c .before .before .select-groups .ensures
-    ∙ ap (λ (r : List ℕ). put (a .bitmap .now) 0 (selected r (8 * a .k) (a .w) (ranging (a .low) (a .span) (a .flip)))) (c .before .before .before .before .before .before .copy .ensures)
-    ∙ ap (put (a .bitmap .now) 0) (selected-padded (drop (a .a) (a .page .now)) 80 (8 * a .k) (a .w) (ranging (a .low) (a .span) (a .flip)))
+    ∙ ap
+    (λ (r : List ℕ). put (a .bitmap .now) 0
+    (selected r (8 * a .k) (a .w) (ranging (a .low) (a .span) (a .flip))))
+    (c .before .before .before .before .before .before .copy .ensures)
+    ∙ ap (put (a .bitmap .now) 0)
+    (selected-padded (drop (a .a) (a .page .now)) 80 (8 * a .k) (a .w) (ranging (a .low) (a .span) (a .flip)))
 
 pub tail-spec : {M : Type 1} → statement M
 tail-spec =
     tie.close
     (tie.spec
-    returns
-    slice-aggregate-copy
-    copy-requires
-    slice-aggregate-select-groups
-    select-groups-requires
-    same-length
-    returns-2)
+    returns (λ c. search needs) (λ c κs. search needs) (λ c. search needs) (λ c κs. search needs)
+    (λ c. search needs) returns-2)

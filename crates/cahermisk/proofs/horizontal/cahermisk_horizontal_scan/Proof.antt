@@ -1,4 +1,5 @@
--- `cahermisk::horizontal::cahermisk_horizontal_scan` meets its contract: the constants come through the call as they are.
+-- `cahermisk::horizontal::cahermisk_horizontal_scan` meets its contract: the constants come through the call as
+-- they are.
 use mir.Syntax.{w64}
 use mir.ValLaws.{toZ-ofZ}
 use borrow.Author.Needs.{needs}
@@ -7,16 +8,11 @@ use Rattle.cahermisk.proofs.horizontal.cahermisk_horizontal_scan.Statem
 }
 use Rattle.cahermisk.proofs.horizontal.cahermisk_horizontal_scan.Tie as tie
 
-scan-requires : tie.Need-scan-requires
-scan-requires c κs = search needs
-
-same-length : tie.Need-same-length
-same-length c = search needs
-
 returns : tie.Need-returns
 returns c =
     let s = c .before .before .before .before .before .before in
-    rw (toZ-ofZ w64 (s .args .a) (s .fits .a), toZ-ofZ w64 (s .args .b) (s .fits .b)) at (c .before .before .scan .ensures)
+    rw (toZ-ofZ w64 (s .args .a) (s .fits .a), toZ-ofZ w64 (s .args .b) (s .fits .b)) at
+    (c .before .before .scan .ensures)
 
 pub cahermisk-horizontal-scan-spec : {M : Type 1} → statement M
-cahermisk-horizontal-scan-spec = tie.close (tie.spec scan-requires same-length returns)
+cahermisk-horizontal-scan-spec = tie.close (tie.spec (λ c κs. search needs) (λ c. search needs) returns)

@@ -7,16 +7,11 @@ use Rattle.cahermisk.proofs.runs.cahermisk_runs_scan.Statement.{
 }
 use Rattle.cahermisk.proofs.runs.cahermisk_runs_scan.Tie as tie
 
-scan-requires : tie.Need-scan-requires
-scan-requires c κs = search needs
-
-same-length : tie.Need-same-length
-same-length c = search needs
-
 returns : tie.Need-returns
 returns c =
     let s = c .before .before .before .before .before .before in
-    rw (toZ-ofZ w64 (s .args .a) (s .fits .a), toZ-ofZ w64 (s .args .b) (s .fits .b)) at (c .before .before .scan .ensures)
+    rw (toZ-ofZ w64 (s .args .a) (s .fits .a), toZ-ofZ w64 (s .args .b) (s .fits .b)) at
+    (c .before .before .scan .ensures)
 
 pub cahermisk-runs-scan-spec : {M : Type 1} → statement M
-cahermisk-runs-scan-spec = tie.close (tie.spec scan-requires same-length returns)
+cahermisk-runs-scan-spec = tie.close (tie.spec (λ c κs. search needs) (λ c. search needs) returns)

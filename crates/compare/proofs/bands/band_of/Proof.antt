@@ -1,4 +1,5 @@
--- `compare::bands::band_of` meets its contract: arm k is row k of the table, and the numbers above the arms are past its end.
+-- `compare::bands::band_of` meets its contract: arm k is row k of the table, and the numbers above the arms are
+-- past its end.
 use mathlib.Core.Path.{_≡_, sym, _∙_}
 use mathlib.Core.List.{map}
 use Prim.Native.Nat.{ℕ, _+_, _≤_}
@@ -15,35 +16,12 @@ use Rattle.compare.proofs.bands.band_of.Tie as tie
 
 -- the constants are read back from their bits
 at-row : (c : tie.Start) (k : ℕ) → c .args .op ≡ k
-    → bandOf k (toZ w64 (ofZ w64 (c .args .a))) (toZ w64 (ofZ w64 (c .args .b))) ≡ bandOf (c .args .op) (c .args .a) (c .args .b)
+    → bandOf k (toZ w64 (ofZ w64 (c .args .a))) (toZ w64 (ofZ w64 (c .args .b)))
+    ≡ bandOf (c .args .op) (c .args .a) (c .args .b)
 at-row c k e = rw (e, toZ-ofZ w64 (c .args .a) (c .fits .a), toZ-ofZ w64 (c .args .b) (c .fits .b))
 
 four : (n m : ℕ) → m ≤ n → (n ≡ m → ⊥) → (n ≡ m + 1 → ⊥) → (n ≡ m + 2 → ⊥) → (n ≡ m + 3 → ⊥) → m + 4 ≤ n
 four n m l a b c d = omega arith
-
-known-requires : tie.Need-known-requires
-known-requires c κs = search needs
-
-known-requires-2 : tie.Need-known-requires-2
-known-requires-2 c κs = search needs
-
-known-requires-3 : tie.Need-known-requires-3
-known-requires-3 c κs = search needs
-
-known-requires-4 : tie.Need-known-requires-4
-known-requires-4 c κs = search needs
-
-known-requires-5 : tie.Need-known-requires-5
-known-requires-5 c κs = search needs
-
-known-requires-6 : tie.Need-known-requires-6
-known-requires-6 c κs = search needs
-
-known-requires-7 : tie.Need-known-requires-7
-known-requires-7 c κs = search needs
-
-known-requires-8 : tie.Need-known-requires-8
-known-requires-8 c κs = search needs
 
 returns : tie.Need-returns
 unfolding bandOf bands
@@ -82,7 +60,9 @@ unfolding bandOf bands
 returns-9 c =
     let a = c .before .args in
     let r = c .match .rest in
-    let low : 4 ≤ a .op = four (a .op) 0 (omega arith) (r .0 .0 .0 .0 .0 .0 .0 .1) (r .0 .0 .0 .0 .0 .0 .1) (r .0 .0 .0 .0 .0 .1) (r .0 .0 .0 .0 .1) in
+    let low : 4 ≤ a .op =
+    four (a .op) 0 (omega arith) (r .0 .0 .0 .0 .0 .0 .0 .1) (r .0 .0 .0 .0 .0 .0 .1) (r .0 .0 .0 .0 .0 .1)
+    (r .0 .0 .0 .0 .1) in
     let above : 8 ≤ a .op = four (a .op) 4 low (r .0 .0 .0 .1) (r .0 .0 .1) (r .0 .1) (r .1) in
     sym (List·getD-eq-default (map Of (bands (a .a) (a .b))) Unknown {n = a .op} above)
 
@@ -90,20 +70,6 @@ pub band-of-spec : {M : Type 1} → statement M
 band-of-spec =
     tie.close
     (tie.spec
-    known-requires
-    known-requires-2
-    known-requires-3
-    known-requires-4
-    known-requires-5
-    known-requires-6
-    known-requires-7
-    known-requires-8
-    returns
-    returns-2
-    returns-3
-    returns-4
-    returns-5
-    returns-6
-    returns-7
-    returns-8
-    returns-9)
+    (λ c κs. search needs) (λ c κs. search needs) (λ c κs. search needs) (λ c κs. search needs)
+    (λ c κs. search needs) (λ c κs. search needs) (λ c κs. search needs) (λ c κs. search needs) returns
+    returns-2 returns-3 returns-4 returns-5 returns-6 returns-7 returns-8 returns-9)

@@ -11,13 +11,14 @@ use Rattle.compare.specs.Inside.{by-difference}
 use Rattle.compare.proofs.ranges.passes.Statement.{statement}
 use Rattle.compare.proofs.ranges.passes.Tie as tie
 
-wrapping-sub-u32-requires : tie.Need-wrapping-sub-u32-requires
-wrapping-sub-u32-requires c κs = search needs
-
-within : (c : tie.After-wrapping-sub-u32) → let a = c .before .args in leb (c .wrapping-sub-u32 .result) (a .range .span) ≡ inside (a .range .low) (a .range .low + a .range .span) (a .x)
+within : (c : tie.After-wrapping-sub-u32)
+    → let a = c .before .args in
+    leb (c .wrapping-sub-u32 .result) (a .range .span)
+    ≡ inside (a .range .low) (a .range .low + a .range .span) (a .x)
 within c =
     let a = c .before .args in
-    by-difference (a .range .low) (a .range .span) (a .x) (c .wrapping-sub-u32 .result) (omega arith) (omega arith) (omega arith) (c .wrapping-sub-u32 .ensures)
+    by-difference (a .range .low) (a .range .span) (a .x) (c .wrapping-sub-u32 .result) (omega arith) (omega arith)
+    (omega arith) (c .wrapping-sub-u32 .ensures)
 
 returns : tie.Need-returns
 unfolding ranged
@@ -28,4 +29,4 @@ unfolding ranged
 returns-2 c = rw (le-ltb _ _ (c .if1 .left)) (within (c .before .before .before))
 
 pub passes-spec : {M : Type 1} → statement M
-passes-spec = tie.close (tie.spec wrapping-sub-u32-requires returns returns-2)
+passes-spec = tie.close (tie.spec (λ c κs. search needs) returns returns-2)

@@ -1,4 +1,5 @@
--- `compare::ranges::range_of` meets its contract: the band's ends are read back from their bits, and the last is at most 2^32.
+-- `compare::ranges::range_of` meets its contract: the band's ends are read back from their bits, and the last is at
+-- most 2^32.
 use mathlib.Core.Path.{_∙_}
 use borrow.Author.Needs.{needs}
 use mir.Syntax.{w64}
@@ -9,14 +10,9 @@ use Rattle.compare.specs.Cuts.{next-le}
 use Rattle.compare.proofs.ranges.range_of.Statement.{statement}
 use Rattle.compare.proofs.ranges.range_of.Tie as tie
 
-cut-requires : tie.Need-cut-requires
-cut-requires c κs = search needs
-
-next-requires : tie.Need-next-requires
-next-requires c κs = search needs
-
 range-to-requires : tie.Need-range-to-requires
-range-to-requires c κs = rw (c .next .ensures) (next-le (toZ w64 (ofZ w64 (c .before .before .before .before .args .band .high))))
+range-to-requires c κs =
+    rw (c .next .ensures) (next-le (toZ w64 (ofZ w64 (c .before .before .before .before .args .band .high))))
 
 returns : tie.Need-returns
 unfolding rangeOf
@@ -33,4 +29,5 @@ returns c =
     )
 
 pub range-of-spec : {M : Type 1} → statement M
-range-of-spec = tie.close (tie.spec cut-requires next-requires range-to-requires returns)
+range-of-spec =
+    tie.close (tie.spec (λ c κs. search needs) (λ c κs. search needs) range-to-requires returns)

@@ -14,18 +14,9 @@ sub-t6 c = search needs
 sub-t7 : tie.Need-sub-t7
 sub-t7 c = search needs
 
-cast-t8 : tie.Need-cast-t8
-cast-t8 c = search needs
-
-flip-of-requires : tie.Need-flip-of-requires
-flip-of-requires c κs = search needs
-
 returns : tie.Need-returns
 unfolding rangeTo
 returns c = rw (lt-ltb _ _ (c .before .if1 .taken), c .flip-of .ensures)
-
-flip-of-requires-2 : tie.Need-flip-of-requires-2
-flip-of-requires-2 c κs = search needs
 
 returns-2 : tie.Need-returns-2
 unfolding rangeTo
@@ -34,4 +25,6 @@ returns-2 c = rw (le-ltb _ _ (c .before .if1 .left), c .flip-of2 .ensures)
 pub range-to-spec : {M : Type 1} → statement M
 range-to-spec =
     tie.close
-    (tie.spec cast-t5 sub-t6 sub-t7 cast-t8 flip-of-requires returns flip-of-requires-2 returns-2)
+    (tie.spec
+    cast-t5 sub-t6 sub-t7 (λ c. search needs) (λ c κs. search needs) returns (λ c κs. search needs)
+    returns-2)

@@ -14,20 +14,15 @@ back c = toZ-ofZ w64 (c .args .z) (c .fits .z)
 returns : tie.Need-returns
 returns c = signed-cut-over (c .before .args .z) (rw (back (c .before)) at (c .if1 .taken))
 
-raised32-requires : tie.Need-raised32-requires
-raised32-requires c κs = search needs
-
-cast-result : tie.Need-cast-result
-cast-result c = search needs
-
 returns-2 : tie.Need-returns-2
 returns-2 c =
     let t = c .before in
     let s = t .before .before in
-    (rw (back s) at (c .raised32 .ensures)) ∙ signed-cut-in (s .args .z) (rw (back s) at (t .before .if1 .left)) (rw (back s) at (t .if2 .taken))
+    (rw (back s) at (c .raised32 .ensures))
+    ∙ signed-cut-in (s .args .z) (rw (back s) at (t .before .if1 .left)) (rw (back s) at (t .if2 .taken))
 
 returns-3 : tie.Need-returns-3
 returns-3 c = signed-cut-low (c .before .before .args .z) (rw (back (c .before .before)) at (c .if2 .left))
 
 pub cut-spec : {M : Type 1} → statement M
-cut-spec = tie.close (tie.spec returns raised32-requires cast-result returns-2 returns-3)
+cut-spec = tie.close (tie.spec returns (λ c κs. search needs) (λ c. search needs) returns-2 returns-3)

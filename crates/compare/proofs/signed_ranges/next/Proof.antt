@@ -16,12 +16,6 @@ back c = toZ-ofZ w64 (c .args .z) (c .fits .z)
 returns : tie.Need-returns
 returns c = signed-next-low (c .before .args .z) (rw (back (c .before)) at (c .if1 .taken))
 
-cut-requires : tie.Need-cut-requires
-cut-requires c κs = search needs
-
-one-more-requires : tie.Need-one-more-requires
-one-more-requires c κs = search needs
-
 returns-2 : tie.Need-returns-2
 returns-2 c =
     let e = c .before .before in
@@ -29,4 +23,4 @@ returns-2 c =
     ∙ sym (signed-next-cut (e .before .args .z) (rw (back (e .before)) at (e .if1 .left)))
 
 pub next-spec : {M : Type 1} → statement M
-next-spec = tie.close (tie.spec returns cut-requires one-more-requires returns-2)
+next-spec = tie.close (tie.spec returns (λ c κs. search needs) (λ c κs. search needs) returns-2)

@@ -1,4 +1,5 @@
--- `compare::signed_ranges::signed_range_of` meets its contract: the band's ends are read back from their bits, and the last is at most 2^32.
+-- `compare::signed_ranges::signed_range_of` meets its contract: the band's ends are read back from their bits, and
+-- the last is at most 2^32.
 use mathlib.Core.Path.{_∙_}
 use borrow.Author.Needs.{needs}
 use mir.Syntax.{w64}
@@ -7,12 +8,6 @@ use Rattle.compare.specs.SignedRange.{signedRangeOf}
 use Rattle.compare.specs.SignedCuts.{signed-next-le}
 use Rattle.compare.proofs.signed_ranges.signed_range_of.Statement.{statement}
 use Rattle.compare.proofs.signed_ranges.signed_range_of.Tie as tie
-
-cut-requires : tie.Need-cut-requires
-cut-requires c κs = search needs
-
-next-requires : tie.Need-next-requires
-next-requires c κs = search needs
 
 range-to-requires : tie.Need-range-to-requires
 range-to-requires c κs = rw (c .next .ensures) (signed-next-le 32 _)
@@ -32,4 +27,5 @@ returns c =
     )
 
 pub signed-range-of-spec : {M : Type 1} → statement M
-signed-range-of-spec = tie.close (tie.spec cut-requires next-requires range-to-requires returns)
+signed-range-of-spec =
+    tie.close (tie.spec (λ c κs. search needs) (λ c κs. search needs) range-to-requires returns)

@@ -1,4 +1,5 @@
--- `delta_decode::placing::place` meets its contract: what is reached from the first value's remainder are the page's entries.
+-- `delta_decode::placing::place` meets its contract: what is reached from the first value's remainder are the
+-- page's entries.
 use mathlib.Core.Path.{_≡_, sym, ap, _∙_}
 use Prim.Native.Nat.{ℕ, _-_}
 use native.Mathlib.Omega.{arith}
@@ -17,7 +18,8 @@ use Rattle.delta_decode.proofs.Refused.{unopened}
 use Rattle.delta_decode.proofs.placing.place.Statement.{statement}
 use Rattle.delta_decode.proofs.placing.place.Tie as tie
 
-head-is : (c : tie.After-known-told) → let a = c .before .before .before .before .before .before .args in let v = c .before .head .given .0 in
+head-is : (c : tie.After-known-told)
+    → let a = c .before .before .before .before .before .before .args in let v = c .before .head .given .0 in
     headAt 32 (a .n) (a .page .now) ≡ Opened (v .0) (v .1 .0) (v .1 .1 .0) (v .1 .1 .1 .0)
 head-is c = sym (c .before .before .before .head-at .ensures) ∙ c .before .head .given .1
 
@@ -25,34 +27,22 @@ returns : tie.Need-returns
 returns c =
     let a = c .before .before .args in
     tabulate-none (a .entries .now) 0 (pageEntry 32 (read 32 (a .n) (a .page .now)))
-    ∙ ap (λ (k : ℕ). put (a .entries .now) 0 (tabulate k (pageEntry 32 (read 32 (a .n) (a .page .now))))) (sym (c .if1 .taken))
-
-head-at-requires : tie.Need-head-at-requires
-head-at-requires c κs = search needs
-
-enum-told : tie.Need-enum-told
-enum-told c = search needs
+    ∙ ap (λ (k : ℕ). put (a .entries .now) 0 (tabulate k (pageEntry 32 (read 32 (a .n) (a .page .now)))))
+    (sym (c .if1 .taken))
 
 returns-2 : tie.Need-returns-2
 returns-2 c =
     let h = c .before .before .head-at in
     let s = c .before .before .before .before .before in
-    absurd (unopened (h .result) (c .before .match .keys1) (λ code e. good-head 32 (s .args .n) (s .args .page .now) (s .pre .2) (sym (h .ensures) ∙ e)))
-
-enum-known-head : tie.Need-enum-known-head
-enum-known-head c = search needs
-
-kept-number-requires : tie.Need-kept-number-requires
-kept-number-requires c κs = search needs
+    absurd
+    (unopened (h .result) (c .before .match .keys1)
+    (λ code e. good-head 32 (s .args .n) (s .args .page .now) (s .pre .2) (sym (h .ensures) ∙ e)))
 
 place-blocks-requires : tie.Need-place-blocks-requires
 place-blocks-requires c κs =
     let s = c .before .before .before .before .before .before .before .before in
     let h = head-is (c .before .before) in
     (omega arith, s .pre .0, head-shaped 32 _ _ h, s .pre .1, blocks-good 32 _ _ (s .pre .2) h)
-
-same-length : tie.Need-same-length
-same-length c = search needs
 
 returns-3 : tie.Need-returns-3
 returns-3 c =
@@ -61,19 +51,20 @@ returns-3 c =
     let a = s .args in
     let v = k .before .head .given .0 in
     c .before .place-blocks .ensures
-    ∙ ap (λ (x : ℕ). put (a .entries .now) 0 (tabulate (a .n) (λ i. signed 32 (reached 32 x (step 32 (deltasOf (blocksAt 32 (v .0) (v .1 .0) (a .n - 1) (a .n - 1) (a .page .now) (v .1 .1 .1 .0)))) i)))) (c .before .before .before .kept-number .ensures)
-    ∙ ap (put (a .entries .now) 0) (tabulate-ext (a .n) _ _ (λ i l. signed-page 32 (a .n) (a .page .now) (s .pre .2) (head-is k) (omega arith) i))
+    ∙ ap
+    (λ (x : ℕ). put (a .entries .now) 0
+    (tabulate (a .n)
+    (λ i. signed 32
+    (reached 32 x
+    (step 32 (deltasOf (blocksAt 32 (v .0) (v .1 .0) (a .n - 1) (a .n - 1) (a .page .now) (v .1 .1 .1 .0))))
+    i)))) (c .before .before .before .kept-number .ensures)
+    ∙ ap (put (a .entries .now) 0)
+    (tabulate-ext (a .n) _ _
+    (λ i l. signed-page 32 (a .n) (a .page .now) (s .pre .2) (head-is k) (omega arith) i))
 
 pub place-spec : {M : Type 1} → statement M
 place-spec =
     tie.close
     (tie.spec
-    returns
-    head-at-requires
-    enum-told
-    returns-2
-    enum-known-head
-    kept-number-requires
-    place-blocks-requires
-    same-length
-    returns-3)
+    returns (λ c κs. search needs) (λ c. search needs) returns-2 (λ c. search needs) (λ c κs. search needs)
+    place-blocks-requires (λ c. search needs) returns-3)

@@ -1,4 +1,5 @@
--- `delta_decode::placing::place_blocks` meets its contract: a block more each turn, and then the entry that may be left.
+-- `delta_decode::placing::place_blocks` meets its contract: a block more each turn, and then the entry that may be
+-- left.
 use mathlib.Core.Path.{_≡_, refl, sym, ap, _∙_}
 use Prim.Native.Nat.{_+_, _-_, _*_, _/_, _≤_, min}
 use native.Mathlib.Omega.{arith}
@@ -15,7 +16,8 @@ use Rattle.delta_read.specs.BlockByBlock.{blockHere, deltasHere, refused, never
 use Rattle.delta_octets.specs.EntryByEntry.{Passed}
 use Rattle.delta_octets.specs.TwoWritings.{places, places-none, places-more, places-one}
 use Rattle.delta_decode.specs.MiniblockDeltas.{Judged}
-use Rattle.delta_decode.specs.PageEntries.{deltasOf, minisHere, judged, Pass, pass-start, few, pass-next, pass-last, pass-end}
+use Rattle.delta_decode.specs.PageEntries.{deltasOf, minisHere, judged, Pass, pass-start, few, pass-next}
+use Rattle.delta_decode.specs.PageEntries.{pass-last, pass-end}
 use Rattle.delta_decode.proofs.Refused.{unlaid}
 use Rattle.delta_decode.proofs.placing.place_blocks.Statement.{statement}
 use Rattle.delta_decode.proofs.placing.place_blocks.Tie as tie
@@ -23,59 +25,80 @@ use Rattle.delta_decode.proofs.placing.place_blocks.Tie as tie
 abbrev Inv-loop : tie.InvT-loop
 Inv-loop page start size minis n from entries₀ m x₀ at₀ left₀ i₀ entries x at left i =
     (length entries ≡ length entries₀)
-    × Pass (places 32) 32 page size minis n from (deltasOf (blocksAt 32 size minis (n - 1) (n - 1) page start)) entries₀ left at i x entries
+    × Pass (places 32) 32 page size minis n from (deltasOf (blocksAt 32 size minis (n - 1) (n - 1) page start))
+    entries₀ left at i x entries
 
 abbrev μ-loop : tie.MeasureT-loop
 μ-loop page start size minis n from entries₀ m x₀ at₀ left₀ i₀ entries x at left i = left
 
 -- the block that was read next
-block-is : (c : tie.After-block-at Inv-loop μ-loop) → let l = c .before .before .before .loop in let a = c .before .before .before .before .before .args in
+block-is : (c : tie.After-block-at Inv-loop μ-loop)
+    → let l = c .before .before .before .loop in let a = c .before .before .before .before .before .args in
     blockHere 32 (a .size) (a .minis) (l .left) (a .page .now) (l .at) ≡ c .block-at .result
 block-is c =
     let l = c .before .before .before .loop in
     let a = c .before .before .before .before .before .args in
-    ap (λ need. blockAt 32 (a .minis) need (a .size / a .minis) (a .page .now) (l .at)) (sym (c .before .needed-of .ensures)) ∙ sym (c .block-at .ensures)
+    ap (λ need. blockAt 32 (a .minis) need (a .size / a .minis) (a .page .now) (l .at))
+    (sym (c .before .needed-of .ensures)) ∙ sym (c .block-at .ensures)
 
-laid : (c : tie.After-known-told Inv-loop μ-loop) → let l = c .before .before .before .before .before .before .loop in let a = c .before .before .before .before .before .before .before .before .args in let v = c .before .block .given .0 in
+laid : (c : tie.After-known-told Inv-loop μ-loop)
+    → let l = c .before .before .before .before .before .before .loop in
+    let a = c .before .before .before .before .before .before .before .before .args in
+    let v = c .before .block .given .0 in
     blockHere 32 (a .size) (a .minis) (l .left) (a .page .now) (l .at) ≡ Laid (v .0) (v .1 .0) (v .1 .1 .0)
 laid c = block-is (c .before .before .before) ∙ c .before .block .given .1
 
-minis-judged : (c : tie.After-known-told Inv-loop μ-loop) → let l = c .before .before .before .before .before .before .loop in let a = c .before .before .before .before .before .before .before .before .args in let v = c .before .block .given .0 in
+minis-judged : (c : tie.After-known-told Inv-loop μ-loop)
+    → let l = c .before .before .before .before .before .before .loop in
+    let a = c .before .before .before .before .before .before .before .before .args in
+    let v = c .before .block .given .0 in
     Judged 32 (a .page .now) (minisHere (a .size) (a .minis) (l .left) (v .0) (v .1 .0)) (l .left + 1)
 minis-judged c =
     let l = c .before .before .before .before .before .before .loop in
     let s = c .before .before .before .before .before .before .before .before in
-    judged 32 (s .args .size) (s .args .minis) (l .left) (s .args .page .now) (l .at) _ _ _ (shape _ _ (s .pre .2)) (laid c)
+    judged 32 (s .args .size) (s .args .minis) (l .left) (s .args .page .now) (l .at) _ _ _ (shape _ _ (s .pre .2))
+    (laid c)
 
 -- what the block's reader leaves
-passed : (c : tie.After-place-block Inv-loop μ-loop) → let l = c .before .before .before .before .before .before .before .before .loop in let a = c .before .before .before .before .before .before .before .before .before .before .args in let v = c .before .before .before .block .given .0 in
-    Passed (places 32) 32 (l .x) (step 32 (deltasHere 32 (a .size) (a .minis) (l .left) (a .page .now) (v .0) (v .1 .0))) (l .i) (l .entries)
-    (min (needed (a .minis) (a .size / a .minis) (l .left) * (a .size / a .minis)) (l .left + 1)) (c .place-block .result) (c .place-block .last .1 .1 .1 .1 .0)
+passed : (c : tie.After-place-block Inv-loop μ-loop)
+    → let l = c .before .before .before .before .before .before .before .before .loop in
+    let a = c .before .before .before .before .before .before .before .before .before .before .args in
+    let v = c .before .before .before .block .given .0 in
+    Passed (places 32) 32 (l .x)
+    (step 32 (deltasHere 32 (a .size) (a .minis) (l .left) (a .page .now) (v .0) (v .1 .0))) (l .i) (l .entries)
+    (min (needed (a .minis) (a .size / a .minis) (l .left) * (a .size / a .minis)) (l .left + 1))
+    (c .place-block .result) (c .place-block .last .1 .1 .1 .1 .0)
 passed c =
     let e = c .before .before .before .before .before .before .needed-of .ensures in
     record { entry = rw e at (c .place-block .ensures .0); wrote = rw e at (c .place-block .ensures .1) }
 
-bounded : (c : tie.After-entries Inv-loop μ-loop) → let l = c .before .before .before .before .before .before .before .before .before .loop in let a = c .before .before .before .before .before .before .before .before .before .before .before .args in
+bounded : (c : tie.After-entries Inv-loop μ-loop)
+    → let l = c .before .before .before .before .before .before .before .before .before .loop in
+    let a = c .before .before .before .before .before .before .before .before .before .before .before .args in
     l .i + c .before .before .before .before .before .before .before .needed-of .result * (a .size / a .minis) ≤ 32768
 bounded c =
     let l = c .before .before .before .before .before .before .before .before .before .loop in
     let s = c .before .before .before .before .before .before .before .before .before .before .before in
     let a = s .args in
     rw (c .before .before .before .before .before .before .before .needed-of .ensures)
-    (omega (arith, few (places 32) 32 (a .page .now) (a .size) (a .minis) (a .n) (a .from) (deltasOf (blocksAt 32 (a .size) (a .minis) (a .n - 1) (a .n - 1) (a .page .now) (a .start))) (a .entries .now) (shape _ _ (s .pre .2)) (c .before .before .before .before .before .before .before .before .loop-test .taken) (l .inv .1)))
+    (omega (
+      arith,
+      few (places 32) 32 (a .page .now) (a .size) (a .minis) (a .n) (a .from)
+          (deltasOf (blocksAt 32 (a .size) (a .minis) (a .n - 1) (a .n - 1) (a .page .now) (a .start)))
+          (a .entries .now) (shape _ _ (s .pre .2))
+          (c .before .before .before .before .before .before .before .before .loop-test .taken) (l .inv .1),
+    ))
 
 div-m : tie.Need-div-m Inv-loop μ-loop
 div-m c = let sh = shape _ _ (c .before .pre .2) in omega arith
-
-sub-left : tie.Need-sub-left Inv-loop μ-loop
-sub-left c = search needs
 
 loop-holds : tie.Need-loop-holds Inv-loop μ-loop
 loop-holds c =
     let s = c .before in
     let a = s .args in (
       refl,
-      pass-start (places 32) 32 (a .page .now) (a .size) (a .minis) (a .n) (a .from) _ (a .entries .now) (a .start) (s .pre .4)
+      pass-start (places 32) 32 (a .page .now) (a .size) (a .minis) (a .n) (a .from) _ (a .entries .now) (a .start)
+          (s .pre .4)
           (places-none 32 0 (a .entries .now)),
     )
 
@@ -91,20 +114,21 @@ block-at-requires c κs =
     let sh = shape _ _ (c .before .before .before .before .pre .2) in
     omega (arith, c .needed-of .ensures, needed-le (a .minis) (a .size / a .minis) (c .before .before .loop .left))
 
-enum-known-block : tie.Need-enum-known-block Inv-loop μ-loop
-enum-known-block c = search needs
-
 add-place-block : tie.Need-add-place-block Inv-loop μ-loop
 add-place-block c = omega (arith, minis-judged c .within)
 
 add-place-block-2 : tie.Need-add-place-block-2 Inv-loop μ-loop
-add-place-block-2 c = let l = c .before .before .before .before .before .before .loop in omega (arith, l .inv .1 .rest)
+add-place-block-2 c =
+    let l = c .before .before .before .before .before .before .loop in omega (arith, l .inv .1 .rest)
 
 place-block-requires : tie.Need-place-block-requires Inv-loop μ-loop
 place-block-requires c κs =
     let l = c .before .before .before .before .before .before .before .loop in
-    let p = l .inv .1 in
-    (rw (c .before .before .before .before .before .needed-of .ensures) (minis-judged (c .before)), omega (arith, p .rest), omega (arith, p .rest, l .inv .0))
+    let p = l .inv .1 in (
+      rw (c .before .before .before .before .before .needed-of .ensures) (minis-judged (c .before)),
+      omega (arith, p .rest),
+      omega (arith, p .rest, l .inv .0),
+    )
 
 mul-i : tie.Need-mul-i Inv-loop μ-loop
 mul-i c = omega (arith, bounded c)
@@ -112,12 +136,12 @@ mul-i c = omega (arith, bounded c)
 add-i : tie.Need-add-i Inv-loop μ-loop
 add-i c = omega (arith, bounded c)
 
-left-after-requires : tie.Need-left-after-requires Inv-loop μ-loop
-left-after-requires c κs = search needs
-
 loop-less : tie.Need-loop-less Inv-loop μ-loop
 loop-less c =
-    let sh = shape _ _ (c .before .before .before .before .before .before .before .before .before .before .before .before .pre .2) in
+    let sh =
+    shape _ _
+    (c .before .before .before .before .before .before .before .before .before .before .before .before .pre .2)
+    in
     omega (arith, c .left-after .ensures)
 
 loop-again : tie.Need-loop-again Inv-loop μ-loop
@@ -126,16 +150,17 @@ loop-again c =
     let s = c .before .before .before .before .before .before .before .before .before .before .before .before in
     let a = s .args in (
       search needs,
-      rw (c .left-after .ensures, c .before .before .before .before .before .before .before .before .needed-of .ensures)
-          (pass-next (places 32) 32 (a .page .now) (a .size) (a .minis) (a .n) (a .from) _ (a .entries .now) (shape _ _ (s .pre .2)) (c .before .before .before .before .before .before .before .before .before .loop-test .taken) (l .inv .1)
-          (places-more 32 0 (a .entries .now) (a .n) (omega (arith, s .pre .3))) (laid (c .before .before .before .before)) (passed (c .before .before))),
+      rw (
+        c .left-after .ensures,
+        c .before .before .before .before .before .before .before .before .needed-of .ensures,
+      )
+          (pass-next (places 32) 32 (a .page .now) (a .size) (a .minis) (a .n) (a .from) _ (a .entries .now)
+          (shape _ _ (s .pre .2))
+          (c .before .before .before .before .before .before .before .before .before .loop-test .taken)
+          (l .inv .1)
+          (places-more 32 0 (a .entries .now) (a .n) (omega (arith, s .pre .3)))
+          (laid (c .before .before .before .before)) (passed (c .before .before))),
     )
-
-enum-told : tie.Need-enum-told Inv-loop μ-loop
-enum-told c = search needs
-
-same-length : tie.Need-same-length Inv-loop μ-loop
-same-length c = search needs
 
 -- a good page has no block that is refused
 returns : tie.Need-returns Inv-loop μ-loop
@@ -143,27 +168,20 @@ returns c =
     let b = c .before .before in
     absurd
     (unlaid (b .block-at .result) (c .before .match .keys2)
-    (λ code e. never (refused (b .before .before .loop-test .taken) (b .before .before .before .loop .inv .1 .comes) (block-is b ∙ e))))
+    (λ code e. never
+    (refused (b .before .before .loop-test .taken) (b .before .before .before .loop .inv .1 .comes)
+    (block-is b ∙ e))))
 
 -- no delta is left
-none-left : (c : tie.After-loop Inv-loop μ-loop) → let l = c .before .loop in let a = c .before .before .before .args in
-    Pass (places 32) 32 (a .page .now) (a .size) (a .minis) (a .n) (a .from) (deltasOf (blocksAt 32 (a .size) (a .minis) (a .n - 1) (a .n - 1) (a .page .now) (a .start))) (a .entries .now) 0 (l .at) (l .i) (l .x) (l .entries)
+none-left : (c : tie.After-loop Inv-loop μ-loop)
+    → let l = c .before .loop in let a = c .before .before .before .args in
+    Pass (places 32) 32 (a .page .now) (a .size) (a .minis) (a .n) (a .from)
+    (deltasOf (blocksAt 32 (a .size) (a .minis) (a .n - 1) (a .n - 1) (a .page .now) (a .start)))
+    (a .entries .now) 0 (l .at) (l .i) (l .x) (l .entries)
 none-left c =
     let l = c .before .loop in
     let none : l .left ≡ 0 = omega arith in
     rw none at (l .inv .1)
-
-signed32-requires : tie.Need-signed32-requires Inv-loop μ-loop
-signed32-requires c κs = search needs
-
-mul-entry : tie.Need-mul-entry Inv-loop μ-loop
-mul-entry c = search needs
-
-slice-set-from-entry : tie.Need-slice-set-from-entry Inv-loop μ-loop
-slice-set-from-entry c = search needs
-
-same-length-2 : tie.Need-same-length-2 Inv-loop μ-loop
-same-length-2 c = search needs
 
 returns-2 : tie.Need-returns-2 Inv-loop μ-loop
 returns-2 c =
@@ -171,45 +189,24 @@ returns-2 c =
     let s = c .before .before .before .before .before in
     let a = s .args in
     let z = c .signed32 in
-    pass-last (places 32) 32 (a .page .now) (a .size) (a .minis) (a .n) (a .from) _ (a .entries .now) (none-left (c .before .before))
+    pass-last (places 32) 32 (a .page .now) (a .size) (a .minis) (a .n) (a .from) _ (a .entries .now)
+    (none-left (c .before .before))
     (places-more 32 0 (a .entries .now) (a .n) (omega (arith, s .pre .3))) (c .before .if1 .taken)
-    (places-one 32 (l .i) (l .entries) (l .x) _ (omega (arith, l .inv .0)) (toZ-ofZ w32 (z .result) (record { sfits = z .ok }) ∙ z .ensures))
-
-same-length-3 : tie.Need-same-length-3 Inv-loop μ-loop
-same-length-3 c = search needs
+    (places-one 32 (l .i) (l .entries) (l .x) _ (omega (arith, l .inv .0))
+    (toZ-ofZ w32 (z .result) (record { sfits = z .ok }) ∙ z .ensures))
 
 returns-3 : tie.Need-returns-3 Inv-loop μ-loop
 returns-3 c =
     let a = c .before .before .before .before .args in
-    pass-end (places 32) 32 (a .page .now) (a .size) (a .minis) (a .n) (a .from) _ (a .entries .now) (none-left (c .before)) (c .if1 .left)
+    pass-end (places 32) 32 (a .page .now) (a .size) (a .minis) (a .n) (a .from) _ (a .entries .now)
+    (none-left (c .before)) (c .if1 .left)
 
 pub place-blocks-spec : {M : Type 1} → statement M
 place-blocks-spec =
     tie.close
     (tie.spec
-    Inv-loop
-    μ-loop
-    div-m
-    sub-left
-    loop-holds
-    needed-of-requires
-    block-at-requires
-    enum-known-block
-    add-place-block
-    add-place-block-2
-    place-block-requires
-    mul-i
-    add-i
-    left-after-requires
-    loop-less
-    loop-again
-    enum-told
-    same-length
-    returns
-    signed32-requires
-    mul-entry
-    slice-set-from-entry
-    same-length-2
-    returns-2
-    same-length-3
-    returns-3)
+    Inv-loop μ-loop div-m (λ c. search needs) loop-holds needed-of-requires block-at-requires
+    (λ c. search needs) add-place-block add-place-block-2 place-block-requires mul-i add-i
+    (λ c κs. search needs) loop-less loop-again (λ c. search needs) (λ c. search needs) returns
+    (λ c κs. search needs) (λ c. search needs) (λ c. search needs) (λ c. search needs) returns-2
+    (λ c. search needs) returns-3)

@@ -19,8 +19,11 @@ abbrev μ-loop : tie.MeasureT-loop
 μ-loop body w k least from entries₀ i x₀ j₀ entries x j = k - j
 
 -- what this turn leaves
-passed : (c : tie.After-place-octet Inv-loop μ-loop) → let l = c .before .before .before .before .loop in let a = c .before .before .before .before .before .before .args in
-    Passed (places 32) 32 (l .x) (λ u. packedStep (a .least) (a .body .now) (a .w) (l .j + u)) (a .i + l .j) (l .entries) (min 8 (a .k - l .j))
+passed : (c : tie.After-place-octet Inv-loop μ-loop)
+    → let l = c .before .before .before .before .loop in
+    let a = c .before .before .before .before .before .before .args in
+    Passed (places 32) 32 (l .x) (λ u. packedStep (a .least) (a .body .now) (a .w) (l .j + u)) (a .i + l .j)
+    (l .entries) (min 8 (a .k - l .j))
     (c .place-octet .result) (c .place-octet .last .1 .1 .1 .1 .1 .1 .0)
 passed c =
     let e = c .before .before .min .ensures in
@@ -29,29 +32,21 @@ passed c =
 loop-holds : tie.Need-loop-holds Inv-loop μ-loop
 loop-holds c =
     let a = c .before .args in
-    let none : min 0 (a .k) ≡ 0 = omega arith in
-    (omega arith, omega arith, refl, rw none (passed-none (places 32) 32 (a .from) (packedStep (a .least) (a .body .now) (a .w)) (a .i) (a .entries .now) (places-none 32 (a .i) (a .entries .now))))
-
-sub-min : tie.Need-sub-min Inv-loop μ-loop
-sub-min c = search needs
-
-min-requires : tie.Need-min-requires Inv-loop μ-loop
-min-requires c κs = search needs
-
-add-place-octet : tie.Need-add-place-octet Inv-loop μ-loop
-add-place-octet c = search needs
+    let none : min 0 (a .k) ≡ 0 = omega arith in (
+      omega arith,
+      omega arith,
+      refl,
+      rw none
+          (passed-none (places 32) 32 (a .from) (packedStep (a .least) (a .body .now) (a .w)) (a .i) (a .entries .now)
+          (places-none 32 (a .i) (a .entries .now))),
+    )
 
 place-octet-requires : tie.Need-place-octet-requires Inv-loop μ-loop
 place-octet-requires c κs =
     let l = c .before .before .before .loop in
-    let few : c .before .min .result ≡ min 8 (c .before .before .before .before .before .args .k - l .j) = c .before .min .ensures in
+    let few : c .before .min .result ≡ min 8 (c .before .before .before .before .before .args .k - l .j) =
+    c .before .min .ensures in
     (c .before .before .before .before .before .pre .0, l .inv .0, omega arith, omega arith, omega arith)
-
-add-j : tie.Need-add-j Inv-loop μ-loop
-add-j c = search needs
-
-loop-less : tie.Need-loop-less Inv-loop μ-loop
-loop-less c = search needs
 
 loop-again : tie.Need-loop-again Inv-loop μ-loop
 loop-again c =
@@ -61,12 +56,11 @@ loop-again c =
       omega arith,
       omega arith,
       search needs,
-      passed-eight (places 32) 32 (a .from) (packedStep (a .least) (a .body .now) (a .w)) (a .i) (a .entries .now) (a .k) (l .j) (l .x) _ (l .entries) _
-          (places-more 32 (a .i) (a .entries .now) (a .k) (s .pre .2)) (l .inv .0) (omega arith) (l .inv .3) (passed (c .before)),
+      passed-eight (places 32) 32 (a .from) (packedStep (a .least) (a .body .now) (a .w)) (a .i) (a .entries .now)
+          (a .k) (l .j) (l .x) _ (l .entries) _
+          (places-more 32 (a .i) (a .entries .now) (a .k) (s .pre .2)) (l .inv .0) (omega arith) (l .inv .3)
+          (passed (c .before)),
     )
-
-same-length : tie.Need-same-length Inv-loop μ-loop
-same-length c = search needs
 
 returns : tie.Need-returns Inv-loop μ-loop
 returns c =
@@ -78,15 +72,5 @@ pub place-mini-spec : {M : Type 1} → statement M
 place-mini-spec =
     tie.close
     (tie.spec
-    Inv-loop
-    μ-loop
-    loop-holds
-    sub-min
-    min-requires
-    add-place-octet
-    place-octet-requires
-    add-j
-    loop-less
-    loop-again
-    same-length
-    returns)
+    Inv-loop μ-loop loop-holds (λ c. search needs) (λ c κs. search needs) (λ c. search needs)
+    place-octet-requires (λ c. search needs) (λ c. search needs) loop-again (λ c. search needs) returns)

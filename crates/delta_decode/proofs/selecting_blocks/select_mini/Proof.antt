@@ -21,39 +21,28 @@ abbrev μ-loop : tie.MeasureT-loop
 μ-loop body w k least from range bitmap₀ i x₀ j₀ bitmap x j = k - j
 
 -- the byte of this turn
-octet : (c : tie.After-test-octet Inv-loop μ-loop) → let l = c .before .before .before .loop in let a = c .before .before .before .before .before .before .args in
-    c .test-octet .result ≡ octetOf 32 (min 8 (a .k - l .j)) (ranged (a .range)) (l .x) (λ u. packedStep (a .least) (a .body .now) (a .w) (l .j + u))
+octet : (c : tie.After-test-octet Inv-loop μ-loop)
+    → let l = c .before .before .before .loop in let a = c .before .before .before .before .before .before .args in
+    c .test-octet .result
+    ≡ octetOf 32 (min 8 (a .k - l .j)) (ranged (a .range)) (l .x)
+    (λ u. packedStep (a .least) (a .body .now) (a .w) (l .j + u))
 octet c = rw (c .before .min .ensures) at (c .test-octet .ensures)
 
 loop-holds : tie.Need-loop-holds Inv-loop μ-loop
 loop-holds c =
     let a = c .before .before .args in
-    let none : min 0 (a .k) ≡ 0 = omega arith in
-    (omega arith, omega arith, refl, rw none (passed-none (selects (ranged (a .range))) 32 (a .from) (packedStep (a .least) (a .body .now) (a .w)) (a .i) (a .bitmap .now) (selects-none (ranged (a .range)) (a .i) (a .bitmap .now))))
-
-sub-min : tie.Need-sub-min Inv-loop μ-loop
-sub-min c = search needs
-
-min-requires : tie.Need-min-requires Inv-loop μ-loop
-min-requires c κs = search needs
-
-test-octet-requires : tie.Need-test-octet-requires Inv-loop μ-loop
-test-octet-requires c κs = search needs
+    let none : min 0 (a .k) ≡ 0 = omega arith in (
+      omega arith,
+      omega arith,
+      refl,
+      rw none
+          (passed-none (selects (ranged (a .range))) 32 (a .from) (packedStep (a .least) (a .body .now) (a .w)) (a .i)
+          (a .bitmap .now) (selects-none (ranged (a .range)) (a .i) (a .bitmap .now))),
+    )
 
 cast-bitmap : tie.Need-cast-bitmap Inv-loop μ-loop
-cast-bitmap c = record { fits = octet-small 32 _ _ _ _ (c .before .test-octet .result) (omega arith) (octet (c .before)) }
-
-add-bitmap : tie.Need-add-bitmap Inv-loop μ-loop
-add-bitmap c = search needs
-
-slice-write-bitmap : tie.Need-slice-write-bitmap Inv-loop μ-loop
-slice-write-bitmap c = search needs
-
-add-j : tie.Need-add-j Inv-loop μ-loop
-add-j c = search needs
-
-loop-less : tie.Need-loop-less Inv-loop μ-loop
-loop-less c = search needs
+cast-bitmap c =
+    record { fits = octet-small 32 _ _ _ _ (c .before .test-octet .result) (omega arith) (octet (c .before)) }
 
 loop-again : tie.Need-loop-again Inv-loop μ-loop
 loop-again c =
@@ -63,34 +52,22 @@ loop-again c =
       omega arith,
       omega arith,
       search needs,
-      octet-next 32 (ranged (a .range)) (a .from) (packedStep (a .least) (a .body .now) (a .w)) (a .i) (a .bitmap .now) (a .k) (l .j) (l .x) (l .bitmap) (c .before .test-octet .result)
+      octet-next 32 (ranged (a .range)) (a .from) (packedStep (a .least) (a .body .now) (a .w)) (a .i)
+          (a .bitmap .now) (a .k) (l .j) (l .x) (l .bitmap) (c .before .test-octet .result)
           (s .pre .1) (l .inv .0) (omega arith) (s .pre .3) (l .inv .2) (octet (c .before)) (l .inv .3),
     )
-
-same-length : tie.Need-same-length Inv-loop μ-loop
-same-length c = search needs
 
 returns : tie.Need-returns Inv-loop μ-loop
 returns c =
     let l = c .before .loop in
-    let all : min (l .j) (c .before .before .before .before .args .k) ≡ c .before .before .before .before .args .k = omega arith in
+    let all : min (l .j) (c .before .before .before .before .args .k) ≡ c .before .before .before .before .args .k =
+    omega arith in
     rw (← all) (l .inv .3 .entry, l .inv .3 .wrote)
 
 pub select-mini-spec : {M : Type 1} → statement M
 select-mini-spec =
     tie.close
     (tie.spec
-    Inv-loop
-    μ-loop
-    loop-holds
-    sub-min
-    min-requires
-    test-octet-requires
-    cast-bitmap
-    add-bitmap
-    slice-write-bitmap
-    add-j
-    loop-less
-    loop-again
-    same-length
-    returns)
+    Inv-loop μ-loop loop-holds (λ c. search needs) (λ c κs. search needs) (λ c κs. search needs) cast-bitmap
+    (λ c. search needs) (λ c. search needs) (λ c. search needs) (λ c. search needs) loop-again
+    (λ c. search needs) returns)

@@ -15,45 +15,26 @@ use Rattle.delta_octets.proofs.placing.place_few.Tie as tie
 
 abbrev Inv-loop : tie.InvT-loop
 Inv-loop body j w k least from entries₀ i x₀ u₀ entries x u =
-    (u ≤ k) × (length entries ≡ length entries₀) × Passed (places 32) 32 from (λ e. packedStep least body w (j + e)) i entries₀ u x entries
+    (u ≤ k) × (length entries ≡ length entries₀)
+    × Passed (places 32) 32 from (λ e. packedStep least body w (j + e)) i entries₀ u x entries
 
 abbrev μ-loop : tie.MeasureT-loop
 μ-loop body j w k least from entries₀ i x₀ u₀ entries x u = k - u
 
 loop-holds : tie.Need-loop-holds Inv-loop μ-loop
 loop-holds c =
-    let a = c .before .args in
-    (omega arith, refl, passed-none (places 32) 32 (a .from) (λ e. packedStep (a .least) (a .body .now) (a .w) (a .j + e)) (a .i) (a .entries .now) (places-none 32 (a .i) (a .entries .now)))
-
-signed32-requires : tie.Need-signed32-requires Inv-loop μ-loop
-signed32-requires c κs = search needs
-
-add-entry : tie.Need-add-entry Inv-loop μ-loop
-add-entry c = search needs
-
-mul-entry : tie.Need-mul-entry Inv-loop μ-loop
-mul-entry c = search needs
-
-slice-set-from-entry : tie.Need-slice-set-from-entry Inv-loop μ-loop
-slice-set-from-entry c = search needs
-
-add-stepped : tie.Need-add-stepped Inv-loop μ-loop
-add-stepped c = search needs
+    let a = c .before .args in (
+      omega arith,
+      refl,
+      passed-none (places 32) 32 (a .from) (λ e. packedStep (a .least) (a .body .now) (a .w) (a .j + e)) (a .i)
+          (a .entries .now) (places-none 32 (a .i) (a .entries .now)),
+    )
 
 mul-stepped : tie.Need-mul-stepped Inv-loop μ-loop
 mul-stepped c =
     let l = c .before .before .loop in
     let a = c .before .before .before .before .args in
     omega (arith, mul-le-mul {n₁ = a .j + l .u} {m₁ = a .w} {n₂ = 16384} {m₂ = 32} (omega arith) (omega arith))
-
-stepped-requires : tie.Need-stepped-requires Inv-loop μ-loop
-stepped-requires c κs = search needs
-
-add-u : tie.Need-add-u Inv-loop μ-loop
-add-u c = search needs
-
-loop-less : tie.Need-loop-less Inv-loop μ-loop
-loop-less c = search needs
 
 loop-again : tie.Need-loop-again Inv-loop μ-loop
 loop-again c =
@@ -62,12 +43,10 @@ loop-again c =
     let z = c .before .signed32 in (
       omega arith,
       search needs,
-      places-next 32 (a .from) (λ e. packedStep (a .least) (a .body .now) (a .w) (a .j + e)) (a .i) (a .entries .now) (l .u) (l .x) (c .stepped .result) (l .entries) _ (omega arith) (l .inv .2)
+      places-next 32 (a .from) (λ e. packedStep (a .least) (a .body .now) (a .w) (a .j + e)) (a .i)
+          (a .entries .now) (l .u) (l .x) (c .stepped .result) (l .entries) _ (omega arith) (l .inv .2)
           (toZ-ofZ w32 (z .result) (record { sfits = z .ok }) ∙ z .ensures) (c .stepped .ensures),
     )
-
-same-length : tie.Need-same-length Inv-loop μ-loop
-same-length c = search needs
 
 returns : tie.Need-returns Inv-loop μ-loop
 returns c =
@@ -79,18 +58,6 @@ pub place-few-spec : {M : Type 1} → statement M
 place-few-spec =
     tie.close
     (tie.spec
-    Inv-loop
-    μ-loop
-    loop-holds
-    signed32-requires
-    add-entry
-    mul-entry
-    slice-set-from-entry
-    add-stepped
-    mul-stepped
-    stepped-requires
-    add-u
-    loop-less
-    loop-again
-    same-length
-    returns)
+    Inv-loop μ-loop loop-holds (λ c κs. search needs) (λ c. search needs) (λ c. search needs)
+    (λ c. search needs) (λ c. search needs) mul-stepped (λ c κs. search needs) (λ c. search needs)
+    (λ c. search needs) loop-again (λ c. search needs) returns)

@@ -16,13 +16,8 @@ add-if2 : tie.Need-add-if2
 add-if2 c = let s = c .before .before in omega (arith, step-place (s .args .j) (s .args .w) (omega arith) (s .pre .0))
 
 add-if2-2 : tie.Need-add-if2-2
-add-if2-2 c = let s = c .before .before in omega (arith, step-place (s .args .j) (s .args .w) (omega arith) (s .pre .0))
-
-place-whole-requires : tie.Need-place-whole-requires
-place-whole-requires c κs = search needs
-
-same-length : tie.Need-same-length
-same-length c = search needs
+add-if2-2 c =
+    let s = c .before .before in omega (arith, step-place (s .args .j) (s .args .w) (omega arith) (s .pre .0))
 
 returns : tie.Need-returns
 returns c =
@@ -30,30 +25,17 @@ returns c =
     let s = c .before .before .before .before .before .before in
     let a = s .args in
     let all : a .k ≡ 8 = c .before .before .before .before .if1 .taken in
-    let p = passed-same (places 32) 32 (a .from) (λ u. packedStep (a .least) (a .body .now) (a .w) (a .j + u)) (a .i) (a .entries .now) 8 (k .result) (k .last .1 .1 .1 .1 .1 .0)
-    (stepFrom (a .least) (a .body .now) _ (a .w)) (places-none 32 (a .i) (a .entries .now)) (places-more 32 (a .i) (a .entries .now) 8 (omega arith))
-    (λ u. step-from (a .least) (a .body .now) (a .w) (a .j) u (s .pre .1)) (record { entry = k .ensures .0; wrote = k .ensures .1 }) in
+    let p = passed-same (places 32) 32 (a .from) (λ u. packedStep (a .least) (a .body .now) (a .w) (a .j + u))
+    (a .i) (a .entries .now) 8 (k .result) (k .last .1 .1 .1 .1 .1 .0)
+    (stepFrom (a .least) (a .body .now) _ (a .w)) (places-none 32 (a .i) (a .entries .now))
+    (places-more 32 (a .i) (a .entries .now) 8 (omega arith))
+    (λ u. step-from (a .least) (a .body .now) (a .w) (a .j) u (s .pre .1))
+    (record { entry = k .ensures .0; wrote = k .ensures .1 }) in
     rw all (p .entry, p .wrote)
-
-place-few-requires : tie.Need-place-few-requires
-place-few-requires c κs = search needs
-
-same-length-2 : tie.Need-same-length-2
-same-length-2 c = search needs
-
-returns-2 : tie.Need-returns-2
-returns-2 c = search needs
 
 pub place-octet-spec : {M : Type 1} → statement M
 place-octet-spec =
     tie.close
     (tie.spec
-    mul-at
-    add-if2
-    add-if2-2
-    place-whole-requires
-    same-length
-    returns
-    place-few-requires
-    same-length-2
-    returns-2)
+    mul-at add-if2 add-if2-2 (λ c κs. search needs) (λ c. search needs) returns (λ c κs. search needs)
+    (λ c. search needs) (λ c. search needs))

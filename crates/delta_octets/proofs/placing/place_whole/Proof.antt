@@ -15,30 +15,24 @@ use Rattle.delta_octets.proofs.placing.place_whole.Tie as tie
 
 abbrev Inv-loop : tie.InvT-loop
 Inv-loop body at w least from entries₀ i x₀ u₀ entries x u =
-    (u ≤ 8) × (length entries ≡ length entries₀) × Passed (places 32) 32 from (stepFrom least body at w) i entries₀ u x entries
+    (u ≤ 8) × (length entries ≡ length entries₀)
+    × Passed (places 32) 32 from (stepFrom least body at w) i entries₀ u x entries
 
 abbrev μ-loop : tie.MeasureT-loop
 μ-loop body at w least from entries₀ i x₀ u₀ entries x u = 8 - u
 
 loop-holds : tie.Need-loop-holds Inv-loop μ-loop
 loop-holds c =
-    let a = c .before .args in
-    (omega arith, refl, passed-none (places 32) 32 (a .from) (stepFrom (a .least) (a .body .now) (a .at) (a .w)) (a .i) (a .entries .now) (places-none 32 (a .i) (a .entries .now)))
-
-signed32-requires : tie.Need-signed32-requires Inv-loop μ-loop
-signed32-requires c κs = search needs
-
-add-entry : tie.Need-add-entry Inv-loop μ-loop
-add-entry c = search needs
-
-mul-entry : tie.Need-mul-entry Inv-loop μ-loop
-mul-entry c = search needs
-
-slice-set-from-entry : tie.Need-slice-set-from-entry Inv-loop μ-loop
-slice-set-from-entry c = search needs
+    let a = c .before .args in (
+      omega arith,
+      refl,
+      passed-none (places 32) 32 (a .from) (stepFrom (a .least) (a .body .now) (a .at) (a .w)) (a .i)
+          (a .entries .now) (places-none 32 (a .i) (a .entries .now)),
+    )
 
 -- the entry's window ends within the body
-low : (c : tie.After-signed32 Inv-loop μ-loop) → let l = c .before .before .loop in let a = c .before .before .before .before .args in l .u * a .w ≤ 7 * a .w
+low : (c : tie.After-signed32 Inv-loop μ-loop)
+    → let l = c .before .before .loop in let a = c .before .before .before .before .args in l .u * a .w ≤ 7 * a .w
 low c = mul-le-mul-right _ (omega arith)
 
 mul-stepped-in : tie.Need-mul-stepped-in Inv-loop μ-loop
@@ -47,12 +41,6 @@ mul-stepped-in c = omega (arith, low c)
 stepped-in-requires : tie.Need-stepped-in-requires Inv-loop μ-loop
 stepped-in-requires c κs = omega (arith, low c)
 
-add-u : tie.Need-add-u Inv-loop μ-loop
-add-u c = search needs
-
-loop-less : tie.Need-loop-less Inv-loop μ-loop
-loop-less c = search needs
-
 loop-again : tie.Need-loop-again Inv-loop μ-loop
 loop-again c =
     let l = c .before .before .before .loop in
@@ -60,12 +48,10 @@ loop-again c =
     let z = c .before .signed32 in (
       omega arith,
       search needs,
-      places-next 32 (a .from) (stepFrom (a .least) (a .body .now) (a .at) (a .w)) (a .i) (a .entries .now) (l .u) (l .x) (c .stepped-in .result) (l .entries) _ (omega arith) (l .inv .2)
+      places-next 32 (a .from) (stepFrom (a .least) (a .body .now) (a .at) (a .w)) (a .i) (a .entries .now) (l .u)
+          (l .x) (c .stepped-in .result) (l .entries) _ (omega arith) (l .inv .2)
           (toZ-ofZ w32 (z .result) (record { sfits = z .ok }) ∙ z .ensures) (c .stepped-in .ensures),
     )
-
-same-length : tie.Need-same-length Inv-loop μ-loop
-same-length c = search needs
 
 returns : tie.Need-returns Inv-loop μ-loop
 returns c =
@@ -78,17 +64,6 @@ pub place-whole-spec : {M : Type 1} → statement M
 place-whole-spec =
     tie.close
     (tie.spec
-    Inv-loop
-    μ-loop
-    loop-holds
-    signed32-requires
-    add-entry
-    mul-entry
-    slice-set-from-entry
-    mul-stepped-in
-    stepped-in-requires
-    add-u
-    loop-less
-    loop-again
-    same-length
-    returns)
+    Inv-loop μ-loop loop-holds (λ c κs. search needs) (λ c. search needs) (λ c. search needs)
+    (λ c. search needs) mul-stepped-in stepped-in-requires (λ c. search needs) (λ c. search needs)
+    loop-again (λ c. search needs) returns)

@@ -7,16 +7,10 @@ use Rattle.rules.specs.Signed.{modulo}
 use Rattle.delta_octets.proofs.steps.kept_number.Statement.{statement}
 use Rattle.delta_octets.proofs.steps.kept_number.Tie as tie
 
-unzig-requires : tie.Need-unzig-requires
-unzig-requires c κs = search needs
-
-kept32-requires : tie.Need-kept32-requires
-kept32-requires c κs = search needs
-
 returns : tie.Need-returns
 returns c =
     let z = c .before .unzig in
     c .kept32 .ensures ∙ ap (modulo 32) (toZ-ofZ w64 (z .result) (record { sfits = z .ok }) ∙ z .ensures)
 
 pub kept-number-spec : {M : Type 1} → statement M
-kept-number-spec = tie.close (tie.spec unzig-requires kept32-requires returns)
+kept-number-spec = tie.close (tie.spec (λ c κs. search needs) (λ c κs. search needs) returns)

@@ -7,16 +7,10 @@ use Rattle.signed.specs.Raised.{raised}
 use Rattle.delta_octets.proofs.steps.raised_number.Statement.{statement}
 use Rattle.delta_octets.proofs.steps.raised_number.Tie as tie
 
-unzig-requires : tie.Need-unzig-requires
-unzig-requires c κs = search needs
-
-raised32-requires : tie.Need-raised32-requires
-raised32-requires c κs = search needs
-
 returns : tie.Need-returns
 returns c =
     let z = c .before .unzig in
     c .raised32 .ensures ∙ ap (raised 32) (toZ-ofZ w64 (z .result) (record { sfits = z .ok }) ∙ z .ensures)
 
 pub raised-number-spec : {M : Type 1} → statement M
-raised-number-spec = tie.close (tie.spec unzig-requires raised32-requires returns)
+raised-number-spec = tie.close (tie.spec (λ c κs. search needs) (λ c κs. search needs) returns)

@@ -1,4 +1,5 @@
--- `delta_octets::testing::passes_above` meets its contract: what is at most span above the low end is inside the range.
+-- `delta_octets::testing::passes_above` meets its contract: what is at most span above the low end is inside the
+-- range.
 use mathlib.Core.Path.{_≡_, refl, ap}
 use mathlib.Core.Bool.{not}
 use Prim.Native.Nat.{_+_, _%_, _^_}
@@ -10,10 +11,14 @@ use Rattle.compare.specs.Inside.{by-difference}
 use Rattle.delta_octets.proofs.testing.passes_above.Statement.{statement}
 use Rattle.delta_octets.proofs.testing.passes_above.Tie as tie
 
-within : (c : tie.Start) → let a = c .args in leb (a .y) (a .range .span) ≡ inside (a .range .low) (a .range .low + a .range .span) ((a .y + a .range .low) % 2 ^ 32)
+within : (c : tie.Start)
+    → let a = c .args in
+    leb (a .y) (a .range .span)
+    ≡ inside (a .range .low) (a .range .low + a .range .span) ((a .y + a .range .low) % 2 ^ 32)
 within c =
     let a = c .args in
-    by-difference (a .range .low) (a .range .span) ((a .y + a .range .low) % 2 ^ 32) (a .y) (omega arith) (omega arith) (omega arith) refl
+    by-difference (a .range .low) (a .range .span) ((a .y + a .range .low) % 2 ^ 32) (a .y) (omega arith)
+    (omega arith) (omega arith) refl
 
 returns : tie.Need-returns
 unfolding ranged

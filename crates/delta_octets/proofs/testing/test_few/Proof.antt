@@ -20,25 +20,13 @@ abbrev μ-loop : tie.MeasureT-loop
 loop-holds : tie.Need-loop-holds Inv-loop μ-loop
 loop-holds c = (omega arith, tested-none _ _ _ _)
 
-passes-requires : tie.Need-passes-requires Inv-loop μ-loop
-passes-requires c κs = search needs
-
-cast-bits : tie.Need-cast-bits Inv-loop μ-loop
-cast-bits c = search needs
-
-cast-bits-2 : tie.Need-cast-bits-2 Inv-loop μ-loop
-cast-bits-2 c = search needs
-
-shl-bits : tie.Need-shl-bits Inv-loop μ-loop
-shl-bits c = search needs
-
 add-bits : tie.Need-add-bits Inv-loop μ-loop
 add-bits c =
     let l = c .before .before .loop in
-    record { fits = tested-fits _ _ _ _ (l .j) (l .bits) (l .x) (c .passes .result) (l .inv .1) (omega arith) (c .passes .ensures) }
-
-add-stepped : tie.Need-add-stepped Inv-loop μ-loop
-add-stepped c = search needs
+    record {
+      fits = tested-fits _ _ _ _ (l .j) (l .bits) (l .x) (c .passes .result) (l .inv .1) (omega arith)
+          (c .passes .ensures);
+    }
 
 mul-stepped : tie.Need-mul-stepped Inv-loop μ-loop
 mul-stepped c =
@@ -46,19 +34,13 @@ mul-stepped c =
     let l = c .before .before .loop in
     omega (arith, mul-le-mul {n₁ = a .i + l .j} {m₁ = a .w} {n₂ = 16392} {m₂ = 32} (omega arith) (omega arith))
 
-stepped-requires : tie.Need-stepped-requires Inv-loop μ-loop
-stepped-requires c κs = search needs
-
-add-j : tie.Need-add-j Inv-loop μ-loop
-add-j c = search needs
-
-loop-less : tie.Need-loop-less Inv-loop μ-loop
-loop-less c = omega arith
-
 loop-again : tie.Need-loop-again Inv-loop μ-loop
 loop-again c =
-    let l = c .before .before .before .loop in
-    (omega arith, tested-more _ _ _ _ (l .j) (l .bits) (l .x) (c .stepped .result) (c .before .passes .result) (l .inv .1) (omega arith) (c .before .passes .ensures) (c .stepped .ensures))
+    let l = c .before .before .before .loop in (
+      omega arith,
+      tested-more _ _ _ _ (l .j) (l .bits) (l .x) (c .stepped .result) (c .before .passes .result) (l .inv .1)
+          (omega arith) (c .before .passes .ensures) (c .stepped .ensures),
+    )
 
 returns : tie.Need-returns Inv-loop μ-loop
 returns c =
@@ -70,18 +52,6 @@ pub test-few-spec : {M : Type 1} → statement M
 test-few-spec =
     tie.close
     (tie.spec
-    Inv-loop
-    μ-loop
-    loop-holds
-    passes-requires
-    cast-bits
-    cast-bits-2
-    shl-bits
-    add-bits
-    add-stepped
-    mul-stepped
-    stepped-requires
-    add-j
-    loop-less
-    loop-again
-    returns)
+    Inv-loop μ-loop loop-holds (λ c κs. search needs) (λ c. search needs) (λ c. search needs)
+    (λ c. search needs) add-bits (λ c. search needs) mul-stepped (λ c κs. search needs) (λ c. search needs)
+    (λ c. omega arith) loop-again returns)

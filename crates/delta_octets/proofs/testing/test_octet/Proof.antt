@@ -18,9 +18,6 @@ add-if2 c = let s = c .before .before in omega (arith, step-place (s .args .i) (
 add-if2-2 : tie.Need-add-if2-2
 add-if2-2 c = let s = c .before .before in omega (arith, step-place (s .args .i) (s .args .w) (s .pre .2) (s .pre .0))
 
-test-whole-requires : tie.Need-test-whole-requires
-test-whole-requires c κs = search needs
-
 returns : tie.Need-returns
 returns c =
     let s = c .before .before .before .before in
@@ -28,14 +25,12 @@ returns c =
     let all : a .k ≡ 8 = c .before .before .if1 .taken in
     let d : ℕ → ℕ = λ j. packedStep (a .least) (a .body .now) (a .w) (a .i + j) in
     c .test-whole .ensures
-    ∙ octet-ext 32 8 (ranged (a .range)) (a .from) _ d (λ j l. step-from (a .least) (a .body .now) (a .w) (a .i) j (s .pre .3))
+    ∙ octet-ext 32 8 (ranged (a .range)) (a .from) _ d
+    (λ j l. step-from (a .least) (a .body .now) (a .w) (a .i) j (s .pre .3))
     ∙ ap (λ (k : ℕ). octetOf 32 k (ranged (a .range)) (a .from) d) (sym all)
 
-test-few-requires : tie.Need-test-few-requires
-test-few-requires c κs = search needs
-
-returns-2 : tie.Need-returns-2
-returns-2 c = search needs
-
 pub test-octet-spec : {M : Type 1} → statement M
-test-octet-spec = tie.close (tie.spec mul-at add-if2 add-if2-2 test-whole-requires returns test-few-requires returns-2)
+test-octet-spec =
+    tie.close
+    (tie.spec
+    mul-at add-if2 add-if2-2 (λ c κs. search needs) returns (λ c κs. search needs) (λ c. search needs))

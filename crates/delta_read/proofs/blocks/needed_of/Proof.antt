@@ -4,15 +4,6 @@ use Rattle.rules.specs.Delta.{needed}
 use Rattle.delta_read.proofs.blocks.needed_of.Statement.{statement}
 use Rattle.delta_read.proofs.blocks.needed_of.Tie as tie
 
-sub-all : tie.Need-sub-all
-sub-all c = search needs
-
-add-all : tie.Need-add-all
-add-all c = search needs
-
-div-all : tie.Need-div-all
-div-all c = search needs
-
 returns : tie.Need-returns
 unfolding needed
 returns c = search needs
@@ -22,4 +13,5 @@ unfolding needed
 returns-2 c = search needs
 
 pub needed-of-spec : {M : Type 1} → statement M
-needed-of-spec = tie.close (tie.spec sub-all add-all div-all returns returns-2)
+needed-of-spec =
+    tie.close (tie.spec (λ c. search needs) (λ c. search needs) (λ c. search needs) returns returns-2)

@@ -17,10 +17,12 @@ use Rattle.delta_read.proofs.heads.head_at.Tie as tie
 -- ---- what the definition gives behind the first value, and from it, the count, the miniblocks on
 
 abbrev judged : ℕ → ℕ → ℕ → ℕ → ℕ → ℕ → Head
-judged n size minis count first next = cond (shaped size minis) (cond (eqb count n) (Opened size minis first next) (Unopened 13)) (Unopened 12)
+judged n size minis count first next =
+    cond (shaped size minis) (cond (eqb count n) (Opened size minis first next) (Unopened 13)) (Unopened 12)
 
 abbrev fromFirst : ℕ → List ℕ → ℕ → ℕ → ℕ → ℕ → Head
-fromFirst n page size minis count r = reading Unopened (numberAt 32 page r) (λ first next. judged n size minis count first next)
+fromFirst n page size minis count r =
+    reading Unopened (numberAt 32 page r) (λ first next. judged n size minis count first next)
 
 abbrev fromCount : ℕ → List ℕ → ℕ → ℕ → ℕ → Head
 fromCount n page size minis q = reading Unopened (numberAt 32 page q) (λ count r. fromFirst n page size minis count r)
@@ -30,88 +32,73 @@ fromMinis n page size p = reading Unopened (numberAt 32 page p) (λ minis q. fro
 
 -- ---- a field was read, and what is given from there on is known
 
-on-size : (c : tie.After-known-told) {r : Head} → let a = c .before .before .before .before .before .args in let size = c .before .size-field .given .0 in
+on-size : (c : tie.After-known-told) {r : Head}
+    → let a = c .before .before .before .before .before .args in let size = c .before .size-field .given .0 in
     r ≡ fromMinis (a .n) (a .page .now) (size .0) (size .1 .0) → r ≡ headAt 32 (a .n) (a .page .now)
 unfolding headAt
 on-size c = by-read Unopened _ (sym (c .before .before .before .number-at .ensures) ∙ c .before .size-field .given .1)
 
-on-minis : (c : tie.After-known-told2) {r : Head} → let b = c .before .before .before .before in let a = b .before .before .before .before .before .args in
+on-minis : (c : tie.After-known-told2) {r : Head}
+    → let b = c .before .before .before .before in let a = b .before .before .before .before .before .args in
     let size = b .before .size-field .given .0 in let minis = c .before .minis-field .given .0 in
     r ≡ fromCount (a .n) (a .page .now) (size .0) (minis .0) (minis .1 .0) → r ≡ headAt 32 (a .n) (a .page .now)
-on-minis c e = on-size (c .before .before .before .before) (by-read Unopened _ (sym (c .before .before .before .number-at2 .ensures) ∙ c .before .minis-field .given .1) e)
+on-minis c e =
+    on-size (c .before .before .before .before)
+    (by-read Unopened _ (sym (c .before .before .before .number-at2 .ensures) ∙ c .before .minis-field .given .1) e)
 
-on-count : (c : tie.After-known-told3) {r : Head} → let d = c .before .before .before .before in let b = d .before .before .before .before in let a = b .before .before .before .before .before .args in
-    let size = b .before .size-field .given .0 in let minis = d .before .minis-field .given .0 in let count = c .before .count-field .given .0 in
-    r ≡ fromFirst (a .n) (a .page .now) (size .0) (minis .0) (count .0) (count .1 .0) → r ≡ headAt 32 (a .n) (a .page .now)
-on-count c e = on-minis (c .before .before .before .before) (by-read Unopened _ (sym (c .before .before .before .number-at3 .ensures) ∙ c .before .count-field .given .1) e)
+on-count : (c : tie.After-known-told3) {r : Head}
+    → let d = c .before .before .before .before in
+    let b = d .before .before .before .before in
+    let a = b .before .before .before .before .before .args in
+    let size = b .before .size-field .given .0 in
+    let minis = d .before .minis-field .given .0 in
+    let count = c .before .count-field .given .0 in
+    r ≡ fromFirst (a .n) (a .page .now) (size .0) (minis .0) (count .0) (count .1 .0)
+    → r ≡ headAt 32 (a .n) (a .page .now)
+on-count c e =
+    on-minis (c .before .before .before .before)
+    (by-read Unopened _ (sym (c .before .before .before .number-at3 .ensures) ∙ c .before .count-field .given .1) e)
 
-on-first : (c : tie.After-known-told4) {r : Head} → let f = c .before .before .before .before in let d = f .before .before .before .before in let b = d .before .before .before .before in
-    let a = b .before .before .before .before .before .args in let size = b .before .size-field .given .0 in let minis = d .before .minis-field .given .0 in
+on-first : (c : tie.After-known-told4) {r : Head}
+    → let f = c .before .before .before .before in
+    let d = f .before .before .before .before in
+    let b = d .before .before .before .before in
+    let a = b .before .before .before .before .before .args in
+    let size = b .before .size-field .given .0 in
+    let minis = d .before .minis-field .given .0 in
     let count = f .before .count-field .given .0 in let first = c .before .first-field .given .0 in
     r ≡ judged (a .n) (size .0) (minis .0) (count .0) (first .0) (first .1 .0) → r ≡ headAt 32 (a .n) (a .page .now)
-on-first c e = on-count (c .before .before .before .before) (by-read Unopened _ (sym (c .before .before .before .number-at4 .ensures) ∙ c .before .first-field .given .1) e)
+on-first c e =
+    on-count (c .before .before .before .before)
+    (by-read Unopened _ (sym (c .before .before .before .number-at4 .ensures) ∙ c .before .first-field .given .1) e)
 
 -- ---- the fields
 
-number-at-requires : tie.Need-number-at-requires
-number-at-requires c κs = search needs
-
-enum-known-size-field : tie.Need-enum-known-size-field
-enum-known-size-field c = search needs
-
-fault-of-requires : tie.Need-fault-of-requires
-fault-of-requires c κs = search needs
-
 returns : tie.Need-returns
 unfolding headAt
-returns c = let n = c .before .before .number-at in by-refusal Unopened _ (n .result) (c .before .match .keys2) (n .ensures) (c .fault-of .ensures)
-
-number-at-requires-2 : tie.Need-number-at-requires-2
-number-at-requires-2 c κs = search needs
-
-enum-known-minis-field : tie.Need-enum-known-minis-field
-enum-known-minis-field c = search needs
-
-fault-of-requires-2 : tie.Need-fault-of-requires-2
-fault-of-requires-2 c κs = search needs
+returns c =
+    let n = c .before .before .number-at in
+    by-refusal Unopened _ (n .result) (c .before .match .keys2) (n .ensures) (c .fault-of .ensures)
 
 returns-2 : tie.Need-returns-2
 returns-2 c =
     let n = c .before .before .number-at2 in
-    on-size (c .before .before .before) (by-refusal Unopened _ (n .result) (c .before .match2 .keys2) (n .ensures) (c .fault-of2 .ensures))
-
-number-at-requires-3 : tie.Need-number-at-requires-3
-number-at-requires-3 c κs = search needs
-
-enum-known-count-field : tie.Need-enum-known-count-field
-enum-known-count-field c = search needs
-
-fault-of-requires-3 : tie.Need-fault-of-requires-3
-fault-of-requires-3 c κs = search needs
+    on-size (c .before .before .before)
+    (by-refusal Unopened _ (n .result) (c .before .match2 .keys2) (n .ensures) (c .fault-of2 .ensures))
 
 returns-3 : tie.Need-returns-3
 returns-3 c =
     let n = c .before .before .number-at3 in
-    on-minis (c .before .before .before) (by-refusal Unopened _ (n .result) (c .before .match3 .keys2) (n .ensures) (c .fault-of3 .ensures))
-
-number-at-requires-4 : tie.Need-number-at-requires-4
-number-at-requires-4 c κs = search needs
-
-enum-known-first-field : tie.Need-enum-known-first-field
-enum-known-first-field c = search needs
-
-fault-of-requires-4 : tie.Need-fault-of-requires-4
-fault-of-requires-4 c κs = search needs
+    on-minis (c .before .before .before)
+    (by-refusal Unopened _ (n .result) (c .before .match3 .keys2) (n .ensures) (c .fault-of3 .ensures))
 
 returns-4 : tie.Need-returns-4
 returns-4 c =
     let n = c .before .before .number-at4 in
-    on-count (c .before .before .before) (by-refusal Unopened _ (n .result) (c .before .match4 .keys2) (n .ensures) (c .fault-of4 .ensures))
+    on-count (c .before .before .before)
+    (by-refusal Unopened _ (n .result) (c .before .match4 .keys2) (n .ensures) (c .fault-of4 .ensures))
 
 -- ---- all four are read: the shape, then the count
-
-is-shaped-requires : tie.Need-is-shaped-requires
-is-shaped-requires c κs = search needs
 
 abbrev counted : tie.After-known-told4 → ℕ
 counted c = c .before .before .before .before .before .count-field .given .0 .0
@@ -125,13 +112,15 @@ returns-5 : tie.Need-returns-5
 returns-5 c =
     let k = c .before .before .before in
     let same : counted k ≡ asked k = c .if2 .taken in
-    on-first k (rw (← (c .before .before .is-shaped .ensures), c .before .if1 .taken, eq-eqb (counted k) (asked k) same))
+    on-first k
+    (rw (← (c .before .before .is-shaped .ensures), c .before .if1 .taken, eq-eqb (counted k) (asked k) same))
 
 returns-6 : tie.Need-returns-6
 returns-6 c =
     let k = c .before .before .before in
     let other : counted k ≡ asked k → ⊥ = c .if2 .left in
-    on-first k (rw (← (c .before .before .is-shaped .ensures), c .before .if1 .taken, ne-eqb (counted k) (asked k) other))
+    on-first k
+    (rw (← (c .before .before .is-shaped .ensures), c .before .if1 .taken, ne-eqb (counted k) (asked k) other))
 
 returns-7 : tie.Need-returns-7
 returns-7 c = on-first (c .before .before) (rw (← (c .before .is-shaped .ensures), c .if1 .left))
@@ -140,23 +129,7 @@ pub head-at-spec : {M : Type 1} → statement M
 head-at-spec =
     tie.close
     (tie.spec
-    number-at-requires
-    enum-known-size-field
-    fault-of-requires
-    returns
-    number-at-requires-2
-    enum-known-minis-field
-    fault-of-requires-2
-    returns-2
-    number-at-requires-3
-    enum-known-count-field
-    fault-of-requires-3
-    returns-3
-    number-at-requires-4
-    enum-known-first-field
-    fault-of-requires-4
-    returns-4
-    is-shaped-requires
-    returns-5
-    returns-6
-    returns-7)
+    (λ c κs. search needs) (λ c. search needs) (λ c κs. search needs) returns (λ c κs. search needs)
+    (λ c. search needs) (λ c κs. search needs) returns-2 (λ c κs. search needs) (λ c. search needs)
+    (λ c κs. search needs) returns-3 (λ c κs. search needs) (λ c. search needs) (λ c κs. search needs)
+    returns-4 (λ c κs. search needs) returns-5 returns-6 returns-7)

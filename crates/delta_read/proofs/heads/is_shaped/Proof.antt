@@ -30,29 +30,41 @@ unfolding shaped
 returns-4 c =
     let size = c .before .before .before .before .args .size in
     let minis = c .before .before .before .before .args .minis in
-    rw (le-leb 128 size (omega arith), le-leb size 16384 (omega arith), eq-eqb (size % 128) 0 (omega arith), le-ltb 0 minis (omega arith))
-
-rem-if5 : tie.Need-rem-if5
-rem-if5 c = search needs
+    rw (
+      le-leb 128 size (omega arith),
+      le-leb size 16384 (omega arith),
+      eq-eqb (size % 128) 0 (omega arith),
+      le-ltb 0 minis (omega arith),
+    )
 
 returns-5 : tie.Need-returns-5
 unfolding shaped
 returns-5 c =
     let size = c .before .before .before .before .before .args .size in
     let minis = c .before .before .before .before .before .args .minis in
-    rw (le-leb 128 size (omega arith), le-leb size 16384 (omega arith), eq-eqb (size % 128) 0 (omega arith), lt-ltb 0 minis (omega arith), ne-eqb (size % minis) 0 (c .if5 .taken))
-
-div-result : tie.Need-div-result
-div-result c = search needs
+    rw (
+      le-leb 128 size (omega arith),
+      le-leb size 16384 (omega arith),
+      eq-eqb (size % 128) 0 (omega arith),
+      lt-ltb 0 minis (omega arith),
+      ne-eqb (size % minis) 0 (c .if5 .taken),
+    )
 
 returns-6 : tie.Need-returns-6
 unfolding shaped
 returns-6 c =
     let size = c .before .before .before .before .before .args .size in
     let minis = c .before .before .before .before .before .args .minis in
-    rw (le-leb 128 size (omega arith), le-leb size 16384 (omega arith), eq-eqb (size % 128) 0 (omega arith), lt-ltb 0 minis (omega arith), eq-eqb (size % minis) 0 (c .if5 .left))
+    rw (
+      le-leb 128 size (omega arith),
+      le-leb size 16384 (omega arith),
+      eq-eqb (size % 128) 0 (omega arith),
+      lt-ltb 0 minis (omega arith),
+      eq-eqb (size % minis) 0 (c .if5 .left),
+    )
 
 pub is-shaped-spec : {M : Type 1} → statement M
 is-shaped-spec =
     tie.close
-    (tie.spec returns returns-2 returns-3 returns-4 rem-if5 returns-5 div-result returns-6)
+    (tie.spec
+    returns returns-2 returns-3 returns-4 (λ c. search needs) returns-5 (λ c. search needs) returns-6)

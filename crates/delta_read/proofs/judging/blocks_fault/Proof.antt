@@ -1,4 +1,5 @@
--- `delta_read::judging::blocks_fault` meets its contract. The loop's invariant: the deltas are those passed and what reading on from here gives.
+-- `delta_read::judging::blocks_fault` meets its contract. The loop's invariant: the deltas are those passed and
+-- what reading on from here gives.
 -- Each block takes 128 of the deltas or more, so fewer are left with each turn.
 use mathlib.Core.Path.{_≡_, sym, ap, _∙_}
 use Prim.Native.Nat.{_-_, _/_, _≤_}
@@ -16,7 +17,8 @@ use Rattle.delta_read.proofs.judging.blocks_fault.Statement.{statement}
 use Rattle.delta_read.proofs.judging.blocks_fault.Tie as tie
 
 abbrev Inv-loop : tie.InvT-loop
-Inv-loop page from size minis deltas m at₀ left₀ at left = (left ≤ 16384) × Comes (blocksAt 32 size minis deltas deltas page from) 32 size minis left page at
+Inv-loop page from size minis deltas m at₀ left₀ at left =
+    (left ≤ 16384) × Comes (blocksAt 32 size minis deltas deltas page from) 32 size minis left page at
 
 abbrev μ-loop : tie.MeasureT-loop
 μ-loop page from size minis deltas m at₀ left₀ at left = left
@@ -38,19 +40,15 @@ block-at-requires c κs =
     let sh = shape _ _ (c .before .before .before .before .pre .1) in
     omega (arith, c .needed-of .ensures, needed-le (a .minis) (a .size / a .minis) (c .before .before .loop .left))
 
-enum-known-block : tie.Need-enum-known-block Inv-loop μ-loop
-enum-known-block c = search needs
-
 -- the block that was read next
-block-is : (c : tie.After-block-at Inv-loop μ-loop) → let l = c .before .before .before .loop in let a = c .before .before .before .before .before .args in
+block-is : (c : tie.After-block-at Inv-loop μ-loop)
+    → let l = c .before .before .before .loop in let a = c .before .before .before .before .before .args in
     blockHere 32 (a .size) (a .minis) (l .left) (a .page .now) (l .at) ≡ c .block-at .result
 block-is c =
     let l = c .before .before .before .loop in
     let a = c .before .before .before .before .before .args in
-    ap (λ need. blockAt 32 (a .minis) need (a .size / a .minis) (a .page .now) (l .at)) (sym (c .before .needed-of .ensures)) ∙ sym (c .block-at .ensures)
-
-left-after-requires : tie.Need-left-after-requires Inv-loop μ-loop
-left-after-requires c κs = search needs
+    ap (λ need. blockAt 32 (a .minis) need (a .size / a .minis) (a .page .now) (l .at))
+    (sym (c .before .needed-of .ensures)) ∙ sym (c .block-at .ensures)
 
 loop-less : tie.Need-loop-less Inv-loop μ-loop
 loop-less c =
@@ -61,11 +59,11 @@ loop-again : tie.Need-loop-again Inv-loop μ-loop
 loop-again c =
     let b = c .before .before .before .before in
     let l = b .before .before .before .loop in
-    let sh = shape _ _ (b .before .before .before .before .before .pre .1) in
-    (omega (arith, c .left-after .ensures), rw (c .left-after .ensures) (next-block (omega arith) (l .inv .1) (omega arith) (block-is b ∙ c .before .before .block .given .1)))
-
-enum-known-block-2 : tie.Need-enum-known-block-2 Inv-loop μ-loop
-enum-known-block-2 c = search needs
+    let sh = shape _ _ (b .before .before .before .before .before .pre .1) in (
+      omega (arith, c .left-after .ensures),
+      rw (c .left-after .ensures)
+          (next-block (omega arith) (l .inv .1) (omega arith) (block-is b ∙ c .before .before .block .given .1)),
+    )
 
 returns : tie.Need-returns Inv-loop μ-loop
 returns c =
@@ -75,7 +73,8 @@ returns c =
 
 -- none are left
 at-end : (c : tie.After-loop Inv-loop μ-loop) → let l = c .before .loop in let a = c .before .before .before .args in
-    deltasFault (blocksAt 32 (a .size) (a .minis) (a .deltas) (a .deltas) (a .page .now) (a .from)) ≡ deltasFault (atEnd (ltb (l .at) (length (a .page .now))))
+    deltasFault (blocksAt 32 (a .size) (a .minis) (a .deltas) (a .deltas) (a .page .now) (a .from))
+    ≡ deltasFault (atEnd (ltb (l .at) (length (a .page .now))))
 at-end c =
     let l = c .before .loop in
     let a = c .before .before .before .args in
@@ -91,17 +90,5 @@ pub blocks-fault-spec : {M : Type 1} → statement M
 blocks-fault-spec =
     tie.close
     (tie.spec
-    Inv-loop
-    μ-loop
-    div-m
-    loop-holds
-    needed-of-requires
-    block-at-requires
-    enum-known-block
-    left-after-requires
-    loop-less
-    loop-again
-    enum-known-block-2
-    returns
-    returns-2
-    returns-3)
+    Inv-loop μ-loop div-m loop-holds needed-of-requires block-at-requires (λ c. search needs)
+    (λ c κs. search needs) loop-less loop-again (λ c. search needs) returns returns-2 returns-3)

@@ -10,20 +10,9 @@ use Rattle.delta_read.specs.DeltasFault.{deltasFault, fault-unopened, fa
 use Rattle.delta_read.proofs.judging.page_fault.Statement.{statement}
 use Rattle.delta_read.proofs.judging.page_fault.Tie as tie
 
-head-at-requires : tie.Need-head-at-requires
-head-at-requires c κs = search needs
-
-enum-known-head : tie.Need-enum-known-head
-enum-known-head c = search needs
-
-enum-known-head-2 : tie.Need-enum-known-head-2
-enum-known-head-2 c = search needs
-
-left-after-requires : tie.Need-left-after-requires
-left-after-requires c κs = search needs
-
 -- the header was read
-read : (c : tie.After-known-told2) → let a = c .before .before .before .before .before .args in let v = c .before .head2 .given .0 in
+read : (c : tie.After-known-told2)
+    → let a = c .before .before .before .before .before .args in let v = c .before .head2 .given .0 in
     headAt 32 (a .n) (a .page .now) ≡ Opened (v .0) (v .1 .0) (v .1 .1 .0) (v .1 .1 .1 .0)
 read c = sym (c .before .before .before .head-at .ensures) ∙ c .before .head2 .given .1
 
@@ -33,7 +22,9 @@ blocks-fault-requires c κs = (omega (arith, c .left-after .ensures), head-shape
 returns : tie.Need-returns
 returns c =
     let a = c .before .before .before .before .before .args in
-    sym (fault-unopened 32 (a .n) (a .page .now) (sym (c .before .before .before .head-at .ensures) ∙ c .before .head .given .1))
+    sym
+    (fault-unopened 32 (a .n) (a .page .now)
+    (sym (c .before .before .before .head-at .ensures) ∙ c .before .head .given .1))
 
 returns-2 : tie.Need-returns-2
 returns-2 c =
@@ -41,17 +32,13 @@ returns-2 c =
     let a = k .before .before .before .before .before .args in
     let v = k .before .head2 .given .0 in
     let deltas : c .before .left-after .result ≡ a .n - 1 = omega (arith, c .before .left-after .ensures) in
-    c .blocks-fault .ensures ∙ ap (λ d. deltasFault (blocksAt 32 (v .0) (v .1 .0) d d (a .page .now) (v .1 .1 .1 .0))) deltas
+    c .blocks-fault .ensures
+    ∙ ap (λ d. deltasFault (blocksAt 32 (v .0) (v .1 .0) d d (a .page .now) (v .1 .1 .1 .0))) deltas
     ∙ sym (fault-opened 32 (a .n) (a .page .now) (read k))
 
 pub page-fault-spec : {M : Type 1} → statement M
 page-fault-spec =
     tie.close
     (tie.spec
-    head-at-requires
-    enum-known-head
-    enum-known-head-2
-    left-after-requires
-    blocks-fault-requires
-    returns
-    returns-2)
+    (λ c κs. search needs) (λ c. search needs) (λ c. search needs) (λ c κs. search needs)
+    blocks-fault-requires returns returns-2)

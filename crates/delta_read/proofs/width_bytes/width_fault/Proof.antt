@@ -1,4 +1,5 @@
--- `delta_read::width_bytes::width_fault` meets its contract. The loop's invariant: the fault is that of the bytes that are left.
+-- `delta_read::width_bytes::width_fault` meets its contract. The loop's invariant: the fault is that of the bytes
+-- that are left.
 use mathlib.Core.Logic.{⊎-elim}
 use mathlib.Core.Path.{_≡_, sym, ap, _∙_}
 use mathlib.Core.List.{List}
@@ -27,20 +28,14 @@ loop-holds c =
     let g : a .need - 0 ≡ a .need = omega arith in
     (omega arith, rw (e, f, g))
 
-sub-if1 : tie.Need-sub-if1 Inv-loop μ-loop
-sub-if1 c = search needs
-
 returns : tie.Need-returns Inv-loop μ-loop
 returns c =
     let l = c .before .before .loop in
     let a = c .before .before .before .args in
-    sym (l .inv .1 ∙ width-missing 32 (a .all - l .k) (a .need - l .k) (a .page .now) (a .at + l .k) (omega arith) (omega arith))
-
-add-w : tie.Need-add-w Inv-loop μ-loop
-add-w c = search needs
-
-shared-slice-read-w : tie.Need-shared-slice-read-w Inv-loop μ-loop
-shared-slice-read-w c = search needs
+    sym
+    (l .inv .1
+    ∙ width-missing 32 (a .all - l .k) (a .need - l .k) (a .page .now) (a .at + l .k) (omega arith)
+    (omega arith))
 
 returns-2 : tie.Need-returns-2 Inv-loop μ-loop
 returns-2 c =
@@ -48,7 +43,10 @@ returns-2 c =
     let l = r .loop in
     let a = r .before .args in
     let w = getD (a .page .now) (a .at + l .k) 0 in
-    sym (l .inv .1 ∙ width-needed 32 (a .all - l .k) (a .need - l .k) (a .page .now) (a .at + l .k) (omega arith) (omega arith) (omega arith) ∙ rw (lt-ltb 32 w (omega arith)))
+    sym
+    (l .inv .1
+    ∙ width-needed 32 (a .all - l .k) (a .need - l .k) (a .page .now) (a .at + l .k) (omega arith) (omega arith)
+    (omega arith) ∙ rw (lt-ltb 32 w (omega arith)))
 
 returns-3 : tie.Need-returns-3 Inv-loop μ-loop
 returns-3 c =
@@ -56,16 +54,15 @@ returns-3 c =
     let l = r .loop in
     let a = r .before .args in
     let w = getD (a .page .now) (a .at + l .k) 0 in
-    sym (l .inv .1 ∙ width-unneeded 32 (a .all - l .k) (a .need - l .k) (a .page .now) (a .at + l .k) (omega arith) (omega arith) (omega arith) ∙ rw (ne-eqb w 0 (λ none. omega arith)))
-
-add-k : tie.Need-add-k Inv-loop μ-loop
-add-k c = search needs
-
-loop-less : tie.Need-loop-less Inv-loop μ-loop
-loop-less c = search needs
+    sym
+    (l .inv .1
+    ∙ width-unneeded 32 (a .all - l .k) (a .need - l .k) (a .page .now) (a .at + l .k) (omega arith)
+    (omega arith) (omega arith) ∙ rw (ne-eqb w 0 (λ none. omega arith)))
 
 -- a byte on
-onward : (all need : ℕ) (page : List ℕ) (at k : ℕ) → widthFault 32 (all - k - 1) (need - k - 1) (drop (at + k + 1) page) ≡ widthFault 32 (all - (k + 1)) (need - (k + 1)) (drop (at + (k + 1)) page)
+onward : (all need : ℕ) (page : List ℕ) (at k : ℕ)
+    → widthFault 32 (all - k - 1) (need - k - 1) (drop (at + k + 1) page)
+    ≡ widthFault 32 (all - (k + 1)) (need - (k + 1)) (drop (at + (k + 1)) page)
 onward all need page at k =
     let e : all - k - 1 ≡ all - (k + 1) = omega arith in
     let f : need - k - 1 ≡ need - (k + 1) = omega arith in
@@ -82,8 +79,10 @@ loop-again c =
       omega arith,
       l .inv .1
           ∙ ⊎-elim
-          (λ wanted. width-needed 32 (a .all - l .k) (a .need - l .k) (a .page .now) (a .at + l .k) (omega arith) (omega arith) (omega arith) ∙ rw (le-ltb 32 w (omega arith)) on)
-          (λ unneeded. width-unneeded 32 (a .all - l .k) (a .need - l .k) (a .page .now) (a .at + l .k) (omega arith) (omega arith) (omega arith) ∙ rw (eq-eqb w 0 (omega arith)) on)
+          (λ wanted. width-needed 32 (a .all - l .k) (a .need - l .k) (a .page .now) (a .at + l .k) (omega arith)
+          (omega arith) (omega arith) ∙ rw (le-ltb 32 w (omega arith)) on)
+          (λ unneeded. width-unneeded 32 (a .all - l .k) (a .need - l .k) (a .page .now) (a .at + l .k)
+          (omega arith) (omega arith) (omega arith) ∙ rw (eq-eqb w 0 (omega arith)) on)
           (c .if2 .came),
     )
 
@@ -98,16 +97,5 @@ pub width-fault-spec : {M : Type 1} → statement M
 width-fault-spec =
     tie.close
     (tie.spec
-    Inv-loop
-    μ-loop
-    loop-holds
-    sub-if1
-    returns
-    add-w
-    shared-slice-read-w
-    returns-2
-    returns-3
-    add-k
-    loop-less
-    loop-again
-    returns-4)
+    Inv-loop μ-loop loop-holds (λ c. search needs) returns (λ c. search needs) (λ c. search needs) returns-2
+    returns-3 (λ c. search needs) (λ c. search needs) loop-again returns-4)

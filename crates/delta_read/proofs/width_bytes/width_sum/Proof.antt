@@ -1,4 +1,5 @@
--- `delta_read::width_bytes::width_sum` meets its contract. The loop's invariant: the sum of the first k, which is small.
+-- `delta_read::width_bytes::width_sum` meets its contract. The loop's invariant: the sum of the first k, which is
+-- small.
 use mathlib.Core.Path.{_≡_, refl}
 use Prim.Native.Nat.{_+_, _*_, _-_, _≤_}
 use native.Mathlib.Omega.{arith}
@@ -18,23 +19,13 @@ abbrev μ-loop : tie.MeasureT-loop
 loop-holds : tie.Need-loop-holds Inv-loop μ-loop
 loop-holds c = (omega arith, omega arith, refl)
 
-add-total : tie.Need-add-total Inv-loop μ-loop
-add-total c = search needs
-
-shared-slice-read-total : tie.Need-shared-slice-read-total Inv-loop μ-loop
-shared-slice-read-total c = search needs
-
 cast-total : tie.Need-cast-total Inv-loop μ-loop
-cast-total c = omega (arith, c .shared-slice-known .given (c .before .before .before .args .at + c .before .before .loop .k))
+cast-total c =
+    omega (arith, c .shared-slice-known .given (c .before .before .before .args .at + c .before .before .loop .k))
 
 add-total-2 : tie.Need-add-total-2 Inv-loop μ-loop
-add-total-2 c = omega (arith, c .shared-slice-known .given (c .before .before .before .args .at + c .before .before .loop .k))
-
-add-k : tie.Need-add-k Inv-loop μ-loop
-add-k c = search needs
-
-loop-less : tie.Need-loop-less Inv-loop μ-loop
-loop-less c = search needs
+add-total-2 c =
+    omega (arith, c .shared-slice-known .given (c .before .before .before .args .at + c .before .before .loop .k))
 
 loop-again : tie.Need-loop-again Inv-loop μ-loop
 loop-again c =
@@ -53,14 +44,5 @@ pub width-sum-spec : {M : Type 1} → statement M
 width-sum-spec =
     tie.close
     (tie.spec
-    Inv-loop
-    μ-loop
-    loop-holds
-    add-total
-    shared-slice-read-total
-    cast-total
-    add-total-2
-    add-k
-    loop-less
-    loop-again
-    returns)
+    Inv-loop μ-loop loop-holds (λ c. search needs) (λ c. search needs) cast-total add-total-2
+    (λ c. search needs) (λ c. search needs) loop-again returns)

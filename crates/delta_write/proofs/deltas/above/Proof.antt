@@ -9,15 +9,6 @@ use borrow.Author.Needs.{needs}
 use Rattle.delta_write.proofs.deltas.above.Statement.{statement}
 use Rattle.delta_write.proofs.deltas.above.Tie as tie
 
-kept-requires : tie.Need-kept-requires
-kept-requires c κs = search needs
-
-kept-requires-2 : tie.Need-kept-requires-2
-kept-requires-2 c κs = search needs
-
-wrapping-sub-u32-requires : tie.Need-wrapping-sub-u32-requires
-wrapping-sub-u32-requires c κs = search needs
-
 returns : tie.Need-returns
 returns c =
     let s = c .before .before .before in
@@ -30,4 +21,5 @@ returns c =
     difference-gap 32 r y x (s .fits .delta .sfits) (s .fits .least .sfits) (s .pre) (c .wrapping-sub-u32 .ok) wraps
 
 pub above-spec : {M : Type 1} → statement M
-above-spec = tie.close (tie.spec kept-requires kept-requires-2 wrapping-sub-u32-requires returns)
+above-spec =
+    tie.close (tie.spec (λ c κs. search needs) (λ c κs. search needs) (λ c κs. search needs) returns)

@@ -12,33 +12,6 @@ use borrow.Author.Needs.{needs}
 use Rattle.delta_write.proofs.deltas.delta_at.Statement.{statement}
 use Rattle.delta_write.proofs.deltas.delta_at.Tie as tie
 
-mul-kept : tie.Need-mul-kept
-mul-kept c = search needs
-
-shared-slice-copy-out-kept : tie.Need-shared-slice-copy-out-kept
-shared-slice-copy-out-kept c = search needs
-
-kept-requires : tie.Need-kept-requires
-kept-requires c κs = search needs
-
-add-kept : tie.Need-add-kept
-add-kept c = search needs
-
-mul-kept-2 : tie.Need-mul-kept-2
-mul-kept-2 c = search needs
-
-shared-slice-copy-out-kept-2 : tie.Need-shared-slice-copy-out-kept-2
-shared-slice-copy-out-kept-2 c = search needs
-
-kept-requires-2 : tie.Need-kept-requires-2
-kept-requires-2 c κs = search needs
-
-wrapping-sub-u32-requires : tie.Need-wrapping-sub-u32-requires
-wrapping-sub-u32-requires c κs = search needs
-
-signed32-requires : tie.Need-signed32-requires
-signed32-requires c κs = search needs
-
 returns : tie.Need-returns
 returns c =
     let s = c .before .before .before .before in
@@ -47,23 +20,19 @@ returns c =
     let x = getD xs (a .i) (pos 0) in
     let y = getD xs (a .i + 1) (pos 0) in
     let d = c .before .wrapping-sub-u32 .result in
-    let from : s .kept .result ≡ modulo 32 x = s .kept .ensures ∙ ap (modulo 32) (kept w32 x (record { sfits = s .before .kept-arg .given })) in
-    let to = c .before .before .kept2 .ensures ∙ ap (modulo 32) (kept w32 y (record { sfits = c .before .before .before .kept-arg2 .given })) in
+    let from : s .kept .result ≡ modulo 32 x =
+    s .kept .ensures ∙ ap (modulo 32) (kept w32 x (record { sfits = s .before .kept-arg .given })) in
+    let to =
+    c .before .before .kept2 .ensures
+    ∙ ap (modulo 32) (kept w32 y (record { sfits = c .before .before .before .kept-arg2 .given })) in
     let wraps : (d + modulo 32 x) % 2 ^ 32 ≡ modulo 32 y = rw (from, to) at (c .before .wrapping-sub-u32 .ensures) in
     kept w32 (c .signed32 .result) (record { sfits = c .signed32 .ok }) ∙ c .signed32 .ensures
-    ∙ ap (signed 32) (difference-kept 32 d y x (c .before .wrapping-sub-u32 .ok) wraps) ∙ sym (getD-deltas 32 xs (a .i) (s .before .before .pre .0))
+    ∙ ap (signed 32) (difference-kept 32 d y x (c .before .wrapping-sub-u32 .ok) wraps)
+    ∙ sym (getD-deltas 32 xs (a .i) (s .before .before .pre .0))
 
 pub delta-at-spec : {M : Type 1} → statement M
 delta-at-spec =
     tie.close
     (tie.spec
-    mul-kept
-    shared-slice-copy-out-kept
-    kept-requires
-    add-kept
-    mul-kept-2
-    shared-slice-copy-out-kept-2
-    kept-requires-2
-    wrapping-sub-u32-requires
-    signed32-requires
-    returns)
+    (λ c. search needs) (λ c. search needs) (λ c κs. search needs) (λ c. search needs) (λ c. search needs)
+    (λ c. search needs) (λ c κs. search needs) (λ c κs. search needs) (λ c κs. search needs) returns)

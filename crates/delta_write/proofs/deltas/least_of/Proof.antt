@@ -1,4 +1,5 @@
--- `delta_write::deltas::least_of` meets its contract: the least of the deltas passed goes on with those still to come.
+-- `delta_write::deltas::least_of` meets its contract: the least of the deltas passed goes on with those still to
+-- come.
 use mathlib.Core.Path.{_≡_, sym, _∙_}
 use Prim.Native.Nat.{_+_, _-_, _≤_, _<_}
 use native.Mathlib.Omega.{arith}
@@ -14,35 +15,23 @@ use Rattle.delta_write.proofs.deltas.least_of.Tie as tie
 
 abbrev Inv-loop : tie.InvT-loop
 Inv-loop entries from k smallest₀ i₀ smallest i =
-    (0 < i) × (i ≤ k) × (least (take k (drop from (deltas 32 entries))) ≡ leastFrom (toZ w32 smallest) (take (k - i) (drop (from + i) (deltas 32 entries))))
+    (0 < i) × (i ≤ k)
+    × (least (take k (drop from (deltas 32 entries)))
+    ≡ leastFrom (toZ w32 smallest) (take (k - i) (drop (from + i) (deltas 32 entries))))
 
 abbrev μ-loop : tie.MeasureT-loop
 μ-loop entries from k least₀ i₀ least i = k - i
-
-delta-at-requires : tie.Need-delta-at-requires Inv-loop μ-loop
-delta-at-requires c κs = search needs
 
 loop-holds : tie.Need-loop-holds Inv-loop μ-loop
 loop-holds c =
     let a = c .before .args in
     let ds = deltas 32 (a .entries .now) in
-    let first = kept w32 (c .delta-at .result) (record { sfits = c .delta-at .ok }) ∙ c .delta-at .ensures in
-    (omega arith, omega arith, rw first (least-first ds (a .from) (a .k) (omega (arith, length-deltas 32 (a .entries .now))) (c .before .pre .0)))
-
-add-delta-at : tie.Need-add-delta-at Inv-loop μ-loop
-add-delta-at c = search needs
-
-delta-at-requires-2 : tie.Need-delta-at-requires-2 Inv-loop μ-loop
-delta-at-requires-2 c κs = search needs
-
-lesser-requires : tie.Need-lesser-requires Inv-loop μ-loop
-lesser-requires c κs = search needs
-
-add-i : tie.Need-add-i Inv-loop μ-loop
-add-i c = search needs
-
-loop-less : tie.Need-loop-less Inv-loop μ-loop
-loop-less c = search needs
+    let first = kept w32 (c .delta-at .result) (record { sfits = c .delta-at .ok }) ∙ c .delta-at .ensures in (
+      omega arith,
+      omega arith,
+      rw first
+          (least-first ds (a .from) (a .k) (omega (arith, length-deltas 32 (a .entries .now))) (c .before .pre .0)),
+    )
 
 loop-again : tie.Need-loop-again Inv-loop μ-loop
 loop-again c =
@@ -50,9 +39,13 @@ loop-again c =
     let s = c .before .before .before .before .before in
     let a = s .args in
     let ds = deltas 32 (a .entries .now) in
-    let next = kept w32 (c .before .delta-at2 .result) (record { sfits = c .before .delta-at2 .ok }) ∙ c .before .delta-at2 .ensures in
+    let next =
+    kept w32 (c .before .delta-at2 .result) (record { sfits = c .before .delta-at2 .ok })
+    ∙ c .before .delta-at2 .ensures in
     let found = kept w32 (c .lesser .result) (record { sfits = c .lesser .ok }) ∙ rw next at (c .lesser .ensures) in
-    let more = least-more ds (toZ w32 (l .least)) (a .from + l .i) (a .k - l .i) (omega (arith, length-deltas 32 (a .entries .now))) (omega arith) in
+    let more =
+    least-more ds (toZ w32 (l .least)) (a .from + l .i) (a .k - l .i)
+    (omega (arith, length-deltas 32 (a .entries .now))) (omega arith) in
     let left : a .k - l .i - 1 ≡ a .k - (l .i + 1) = omega arith in
     let place : a .from + l .i + 1 ≡ a .from + (l .i + 1) = omega arith in
     (omega arith, omega arith, l .inv .2 ∙ more ∙ rw (left, place, found))
@@ -68,14 +61,5 @@ pub least-of-spec : {M : Type 1} → statement M
 least-of-spec =
     tie.close
     (tie.spec
-    Inv-loop
-    μ-loop
-    delta-at-requires
-    loop-holds
-    add-delta-at
-    delta-at-requires-2
-    lesser-requires
-    add-i
-    loop-less
-    loop-again
-    returns)
+    Inv-loop μ-loop (λ c κs. search needs) loop-holds (λ c. search needs) (λ c κs. search needs)
+    (λ c κs. search needs) (λ c. search needs) (λ c. search needs) loop-again returns)

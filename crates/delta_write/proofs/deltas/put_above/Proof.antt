@@ -19,7 +19,8 @@ use Rattle.delta_write.proofs.deltas.put_above.Tie as tie
 
 abbrev Inv-loop : tie.InvT-loop
 Inv-loop entries from k smallest numbers₀ i₀ numbers i =
-    (i ≤ k) × (length numbers ≡ length numbers₀) × (numbers ≡ put numbers₀ 0 (take i (aboveLeast (take k (drop from (deltas 32 entries))))))
+    (i ≤ k) × (length numbers ≡ length numbers₀)
+    × (numbers ≡ put numbers₀ 0 (take i (aboveLeast (take k (drop from (deltas 32 entries))))))
 
 abbrev μ-loop : tie.MeasureT-loop
 μ-loop entries from k smallest numbers₀ i₀ numbers i = k - i
@@ -27,15 +28,10 @@ abbrev μ-loop : tie.MeasureT-loop
 loop-holds : tie.Need-loop-holds Inv-loop μ-loop
 loop-holds c = (omega arith, omega arith, put-none (c .before .args .numbers .now) 0)
 
-add-delta-at : tie.Need-add-delta-at Inv-loop μ-loop
-add-delta-at c = search needs
-
-delta-at-requires : tie.Need-delta-at-requires Inv-loop μ-loop
-delta-at-requires c κs = search needs
-
 -- the delta of this turn, and the least of all
 delta : (c : tie.After-delta-at Inv-loop μ-loop) → let a = c .before .before .before .before .args in
-    toZ w32 (ofZ w32 (c .delta-at .result)) ≡ getD (deltas 32 (a .entries .now)) (a .from + c .before .before .loop .i) (pos 0)
+    toZ w32 (ofZ w32 (c .delta-at .result))
+    ≡ getD (deltas 32 (a .entries .now)) (a .from + c .before .before .loop .i) (pos 0)
 delta c = kept w32 (c .delta-at .result) (record { sfits = c .delta-at .ok }) ∙ c .delta-at .ensures
 
 smallest : (c : tie.Start Inv-loop μ-loop) → let a = c .args in
@@ -49,19 +45,9 @@ above-requires : tie.Need-above-requires Inv-loop μ-loop
 above-requires c κs =
     let s = c .before .before .before .before in
     let a = s .args in
-    rw (delta c, smallest s) (least-part (deltas 32 (a .entries .now)) (a .from) (a .k) (within s) (c .before .before .loop .i) (omega arith))
-
-mul-numbers : tie.Need-mul-numbers Inv-loop μ-loop
-mul-numbers c = search needs
-
-slice-write-numbers : tie.Need-slice-write-numbers Inv-loop μ-loop
-slice-write-numbers c = search needs
-
-add-i : tie.Need-add-i Inv-loop μ-loop
-add-i c = search needs
-
-loop-less : tie.Need-loop-less Inv-loop μ-loop
-loop-less c = search needs
+    rw (delta c, smallest s)
+    (least-part (deltas 32 (a .entries .now)) (a .from) (a .k) (within s) (c .before .before .loop .i)
+    (omega arith))
 
 loop-again : tie.Need-loop-again Inv-loop μ-loop
 loop-again c =
@@ -72,11 +58,14 @@ loop-again c =
     let ds = deltas 32 (a .entries .now) in
     let xs = aboveLeast (take (a .k) (drop (a .from) ds)) in
     let number : c .above .result ≡ getD xs (l .i) 0 =
-    (rw (delta d, smallest s) at (c .above .ensures)) ∙ sym (getD-part-above ds (a .from) (a .k) (within s) (l .i) (omega arith)) in
-    (omega arith, search needs, ap₂ (λ (ns : List ℕ) (x : ℕ). set ns (l .i) x) (l .inv .2) number ∙ put-take (a .numbers .now) xs (l .i) 0 (omega arith) (omega (arith, length-part-above ds (a .from) (a .k) (within s))))
-
-same-length : tie.Need-same-length Inv-loop μ-loop
-same-length c = search needs
+    (rw (delta d, smallest s) at (c .above .ensures))
+    ∙ sym (getD-part-above ds (a .from) (a .k) (within s) (l .i) (omega arith)) in (
+      omega arith,
+      search needs,
+      ap₂ (λ (ns : List ℕ) (x : ℕ). set ns (l .i) x) (l .inv .2) number
+          ∙ put-take (a .numbers .now) xs (l .i) 0 (omega arith)
+          (omega (arith, length-part-above ds (a .from) (a .k) (within s))),
+    )
 
 returns : tie.Need-returns Inv-loop μ-loop
 returns c =
@@ -84,22 +73,14 @@ returns c =
     let s = c .before .before .before in
     let a = s .args in
     let ds = deltas 32 (a .entries .now) in
-    l .inv .2 ∙ ap (put (a .numbers .now) 0) (take-all (l .i) (aboveLeast (take (a .k) (drop (a .from) ds))) (omega (arith, length-part-above ds (a .from) (a .k) (within s))))
+    l .inv .2
+    ∙ ap (put (a .numbers .now) 0)
+    (take-all (l .i) (aboveLeast (take (a .k) (drop (a .from) ds)))
+    (omega (arith, length-part-above ds (a .from) (a .k) (within s))))
 
 pub put-above-spec : {M : Type 1} → statement M
 put-above-spec =
     tie.close
     (tie.spec
-    Inv-loop
-    μ-loop
-    loop-holds
-    add-delta-at
-    delta-at-requires
-    above-requires
-    mul-numbers
-    slice-write-numbers
-    add-i
-    loop-less
-    loop-again
-    same-length
-    returns)
+    Inv-loop μ-loop loop-holds (λ c. search needs) (λ c κs. search needs) above-requires (λ c. search needs)
+    (λ c. search needs) (λ c. search needs) (λ c. search needs) loop-again (λ c. search needs) returns)

@@ -7,24 +7,16 @@ use borrow.Author.Needs.{needs}
 use Rattle.delta_write.proofs.deltas.put_numbers.Statement.{statement}
 use Rattle.delta_write.proofs.deltas.put_numbers.Tie as tie
 
-least-of-requires : tie.Need-least-of-requires
-least-of-requires c κs = search needs
-
-put-above-requires : tie.Need-put-above-requires
-put-above-requires c κs = search needs
-
-zigzag-requires : tie.Need-zigzag-requires
-zigzag-requires c κs = search needs
-
-same-length : tie.Need-same-length
-same-length c = search needs
-
 returns : tie.Need-returns
 returns c =
     let p = c .before .before .before in
-    let l = p .before .before .least-of in
-    (p .put-above .ensures, c .zigzag .ensures ∙ ap zigzagOf (kept w32 (l .result) (record { sfits = l .ok }) ∙ l .ensures))
+    let l = p .before .before .least-of in (
+      p .put-above .ensures,
+      c .zigzag .ensures ∙ ap zigzagOf (kept w32 (l .result) (record { sfits = l .ok }) ∙ l .ensures),
+    )
 
 pub put-numbers-spec : {M : Type 1} → statement M
 put-numbers-spec =
-    tie.close (tie.spec least-of-requires put-above-requires zigzag-requires same-length returns)
+    tie.close
+    (tie.spec
+    (λ c κs. search needs) (λ c κs. search needs) (λ c κs. search needs) (λ c. search needs) returns)

@@ -15,32 +15,14 @@ Inv-loop numbers size₀ j₀ size j = (j ≤ 4) × (size ≤ 128 * j) × (size 
 abbrev μ-loop : tie.MeasureT-loop
 μ-loop numbers size₀ j₀ size j = 4 - j
 
-loop-holds : tie.Need-loop-holds Inv-loop μ-loop
-loop-holds c = search needs
-
 -- the width of this turn
-turned : (c : tie.After-width-at Inv-loop μ-loop) → Turn 32 (c .before .before .before .before .args .numbers .now) (c .before .before .loop .j) (c .width-at .result)
+turned : (c : tie.After-width-at Inv-loop μ-loop)
+    → Turn 32 (c .before .before .before .before .args .numbers .now) (c .before .before .loop .j)
+    (c .width-at .result)
 turned c =
     let k = c .before .before .before in
-    turn 32 (k .before .args .numbers .now) (c .before .before .loop .j) (c .width-at .ensures) (omega arith) (λ i. k .shared-slice-known .given i .fits)
-
-width-at-requires : tie.Need-width-at-requires Inv-loop μ-loop
-width-at-requires c κs = search needs
-
-cast-size : tie.Need-cast-size Inv-loop μ-loop
-cast-size c = search needs
-
-mul-size : tie.Need-mul-size Inv-loop μ-loop
-mul-size c = search needs
-
-add-size : tie.Need-add-size Inv-loop μ-loop
-add-size c = search needs
-
-add-j : tie.Need-add-j Inv-loop μ-loop
-add-j c = search needs
-
-loop-less : tie.Need-loop-less Inv-loop μ-loop
-loop-less c = search needs
+    turn 32 (k .before .args .numbers .now) (c .before .before .loop .j) (c .width-at .ensures) (omega arith)
+    (λ i. k .shared-slice-known .given i .fits)
 
 loop-again : tie.Need-loop-again Inv-loop μ-loop
 loop-again c = let t = turned c in (omega arith, omega arith, omega arith)
@@ -55,14 +37,5 @@ pub bodies-size-spec : {M : Type 1} → statement M
 bodies-size-spec =
     tie.close
     (tie.spec
-    Inv-loop
-    μ-loop
-    loop-holds
-    width-at-requires
-    cast-size
-    mul-size
-    add-size
-    add-j
-    loop-less
-    loop-again
-    returns)
+    Inv-loop μ-loop (λ c. search needs) (λ c κs. search needs) (λ c. search needs) (λ c. search needs)
+    (λ c. search needs) (λ c. search needs) (λ c. search needs) loop-again returns)

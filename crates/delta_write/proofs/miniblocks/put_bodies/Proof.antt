@@ -13,43 +13,30 @@ use Rattle.delta_write.proofs.miniblocks.put_bodies.Tie as tie
 
 abbrev Inv-loop : tie.InvT-loop
 Inv-loop numbers page₀ at next₀ j₀ page next j =
-    (j ≤ 4) × (length page ≡ length page₀) × (next ≡ at + length (bodies j 32 numbers)) × (page ≡ put page₀ at (bodies j 32 numbers))
+    (j ≤ 4) × (length page ≡ length page₀) × (next ≡ at + length (bodies j 32 numbers))
+    × (page ≡ put page₀ at (bodies j 32 numbers))
 
 abbrev μ-loop : tie.MeasureT-loop
 μ-loop numbers page₀ at next₀ j₀ page next j = 4 - j
 
 loop-holds : tie.Need-loop-holds Inv-loop μ-loop
-loop-holds c = let a = c .before .before .args in (omega arith, omega arith, omega arith, put-none (a .page .now) (a .at))
+loop-holds c =
+    let a = c .before .before .args in (omega arith, omega arith, omega arith, put-none (a .page .now) (a .at))
 
 -- the width of this turn
-turned : (c : tie.After-width-at Inv-loop μ-loop) → Turn 32 (c .before .before .before .before .before .args .numbers .now) (c .before .before .loop .j) (c .width-at .result)
+turned : (c : tie.After-width-at Inv-loop μ-loop)
+    → Turn 32 (c .before .before .before .before .before .args .numbers .now) (c .before .before .loop .j)
+    (c .width-at .result)
 turned c =
     let k = c .before .before .before in
-    turn 32 (k .before .before .args .numbers .now) (c .before .before .loop .j) (c .width-at .ensures) (omega arith) (λ i. k .before .shared-slice-known .given i .fits)
-
-width-at-requires : tie.Need-width-at-requires Inv-loop μ-loop
-width-at-requires c κs = search needs
-
-mul-pack-part : tie.Need-mul-pack-part Inv-loop μ-loop
-mul-pack-part c = search needs
+    turn 32 (k .before .before .args .numbers .now) (c .before .before .loop .j) (c .width-at .ensures)
+    (omega arith) (λ i. k .before .shared-slice-known .given i .fits)
 
 pack-part-requires : tie.Need-pack-part-requires Inv-loop μ-loop
 pack-part-requires c κs = let t = turned (c .before) in (omega arith, omega arith, omega arith, t .fits, omega arith)
 
-cast-next : tie.Need-cast-next Inv-loop μ-loop
-cast-next c = search needs
-
-mul-next : tie.Need-mul-next Inv-loop μ-loop
-mul-next c = search needs
-
 add-next : tie.Need-add-next Inv-loop μ-loop
 add-next c = let t = turned (c .before .before .before .before) in omega arith
-
-add-j : tie.Need-add-j Inv-loop μ-loop
-add-j c = search needs
-
-loop-less : tie.Need-loop-less Inv-loop μ-loop
-loop-less c = search needs
 
 loop-again : tie.Need-loop-again Inv-loop μ-loop
 loop-again c =
@@ -57,34 +44,24 @@ loop-again c =
     let t = turned (d .before .before) in
     let l = d .before .before .before .before .loop in
     let a = d .before .before .before .before .before .before .before .args in
-    let laid = bodies-put 32 (a .numbers .now) (a .page .now) (l .j) (a .at) (d .before .before .width-at .ensures) t (omega arith) (omega arith) (omega arith) (l .inv .3) (l .inv .2) (d .pack-part .ensures) in
+    let laid =
+    bodies-put 32 (a .numbers .now) (a .page .now) (l .j) (a .at) (d .before .before .width-at .ensures) t
+    (omega arith) (omega arith) (omega arith) (l .inv .3) (l .inv .2) (d .pack-part .ensures) in
     (omega arith, search needs, omega arith, laid)
-
-same-length : tie.Need-same-length Inv-loop μ-loop
-same-length c = search needs
 
 returns : tie.Need-returns Inv-loop μ-loop
 returns c =
     let l = c .before .loop in
     let a = c .before .before .before .before .args in
-    let all : l .j ≡ 4 = omega arith in
-    (l .inv .3 ∙ ap (λ (j : ℕ). put (a .page .now) (a .at) (bodies j 32 (a .numbers .now))) all, l .inv .2 ∙ ap (λ (j : ℕ). a .at + length (bodies j 32 (a .numbers .now))) all)
+    let all : l .j ≡ 4 = omega arith in (
+      l .inv .3 ∙ ap (λ (j : ℕ). put (a .page .now) (a .at) (bodies j 32 (a .numbers .now))) all,
+      l .inv .2 ∙ ap (λ (j : ℕ). a .at + length (bodies j 32 (a .numbers .now))) all,
+    )
 
 pub put-bodies-spec : {M : Type 1} → statement M
 put-bodies-spec =
     tie.close
     (tie.spec
-    Inv-loop
-    μ-loop
-    loop-holds
-    width-at-requires
-    mul-pack-part
-    pack-part-requires
-    cast-next
-    mul-next
-    add-next
-    add-j
-    loop-less
-    loop-again
-    same-length
-    returns)
+    Inv-loop μ-loop loop-holds (λ c κs. search needs) (λ c. search needs) pack-part-requires
+    (λ c. search needs) (λ c. search needs) add-next (λ c. search needs) (λ c. search needs) loop-again
+    (λ c. search needs) returns)

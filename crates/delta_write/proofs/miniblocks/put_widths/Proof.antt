@@ -14,7 +14,8 @@ use Rattle.delta_write.proofs.miniblocks.put_widths.Statement.{statemen
 use Rattle.delta_write.proofs.miniblocks.put_widths.Tie as tie
 
 abbrev Inv-loop : tie.InvT-loop
-Inv-loop numbers page₀ at j₀ page j = (j ≤ 4) × (length page ≡ length page₀) × (page ≡ put page₀ at (widths j 32 numbers))
+Inv-loop numbers page₀ at j₀ page j =
+    (j ≤ 4) × (length page ≡ length page₀) × (page ≡ put page₀ at (widths j 32 numbers))
 
 abbrev μ-loop : tie.MeasureT-loop
 μ-loop numbers page₀ at j₀ page j = 4 - j
@@ -22,23 +23,10 @@ abbrev μ-loop : tie.MeasureT-loop
 loop-holds : tie.Need-loop-holds Inv-loop μ-loop
 loop-holds c = let a = c .before .before .args in (omega arith, omega arith, put-none (a .page .now) (a .at))
 
-width-at-requires : tie.Need-width-at-requires Inv-loop μ-loop
-width-at-requires c κs = search needs
-
 cast-page : tie.Need-cast-page Inv-loop μ-loop
-cast-page c = let ns = c .before .before .before .before .before .args .numbers .now in omega (arith, widths-le 32 (mini (c .before .before .loop .j) ns))
-
-add-page : tie.Need-add-page Inv-loop μ-loop
-add-page c = search needs
-
-slice-write-page : tie.Need-slice-write-page Inv-loop μ-loop
-slice-write-page c = search needs
-
-add-j : tie.Need-add-j Inv-loop μ-loop
-add-j c = search needs
-
-loop-less : tie.Need-loop-less Inv-loop μ-loop
-loop-less c = search needs
+cast-page c =
+    let ns = c .before .before .before .before .before .args .numbers .now in
+    omega (arith, widths-le 32 (mini (c .before .before .loop .j) ns))
 
 loop-again : tie.Need-loop-again Inv-loop μ-loop
 loop-again c =
@@ -47,12 +35,14 @@ loop-again c =
     let ns = a .numbers .now in
     let page = a .page .now in
     let size = length-widths (l .j) 32 ns in
-    let turn : set (put page (a .at) (widths (l .j) 32 ns)) (a .at + l .j) (widthFor 32 (mini (l .j) ns)) ≡ put page (a .at) (widths (l .j + 1) 32 ns) =
-    put-snoc page (widths (l .j) 32 ns) (a .at) (a .at + l .j) (widthFor 32 (mini (l .j) ns)) (omega arith) (omega arith) ∙ ap (put page (a .at)) (sym (widths-next (l .j) 32 ns)) in
-    (omega arith, search needs, ap₂ (λ (p : List ℕ) (w : ℕ). set p (a .at + l .j) w) (l .inv .2) (c .width-at .ensures) ∙ turn)
-
-same-length : tie.Need-same-length Inv-loop μ-loop
-same-length c = search needs
+    let turn : set (put page (a .at) (widths (l .j) 32 ns)) (a .at + l .j) (widthFor 32 (mini (l .j) ns))
+    ≡ put page (a .at) (widths (l .j + 1) 32 ns) =
+    put-snoc page (widths (l .j) 32 ns) (a .at) (a .at + l .j) (widthFor 32 (mini (l .j) ns)) (omega arith)
+    (omega arith) ∙ ap (put page (a .at)) (sym (widths-next (l .j) 32 ns)) in (
+      omega arith,
+      search needs,
+      ap₂ (λ (p : List ℕ) (w : ℕ). set p (a .at + l .j) w) (l .inv .2) (c .width-at .ensures) ∙ turn,
+    )
 
 returns : tie.Need-returns Inv-loop μ-loop
 returns c =
@@ -65,15 +55,5 @@ pub put-widths-spec : {M : Type 1} → statement M
 put-widths-spec =
     tie.close
     (tie.spec
-    Inv-loop
-    μ-loop
-    loop-holds
-    width-at-requires
-    cast-page
-    add-page
-    slice-write-page
-    add-j
-    loop-less
-    loop-again
-    same-length
-    returns)
+    Inv-loop μ-loop loop-holds (λ c κs. search needs) cast-page (λ c. search needs) (λ c. search needs)
+    (λ c. search needs) (λ c. search needs) loop-again (λ c. search needs) returns)

@@ -8,27 +8,6 @@ use borrow.Author.Needs.{needs}
 use Rattle.delta_write.proofs.miniblocks.width_at.Statement.{statement}
 use Rattle.delta_write.proofs.miniblocks.width_at.Tie as tie
 
-mul-from : tie.Need-mul-from
-mul-from c = search needs
-
-add-to : tie.Need-add-to
-add-to c = search needs
-
-mul-width-of : tie.Need-mul-width-of
-mul-width-of c = search needs
-
-sub-width-of : tie.Need-sub-width-of
-sub-width-of c = search needs
-
-part-width-of-start : tie.Need-part-width-of-start
-part-width-of-start c = search needs
-
-part-width-of-end : tie.Need-part-width-of-end
-part-width-of-end c = search needs
-
-width-of-requires : tie.Need-width-of-requires
-width-of-requires c κs = search needs
-
 returns : tie.Need-returns
 returns c =
     let a = c .before .before .before .args in
@@ -39,11 +18,5 @@ pub width-at-spec : {M : Type 1} → statement M
 width-at-spec =
     tie.close
     (tie.spec
-    mul-from
-    add-to
-    mul-width-of
-    sub-width-of
-    part-width-of-start
-    part-width-of-end
-    width-of-requires
-    returns)
+    (λ c. search needs) (λ c. search needs) (λ c. search needs) (λ c. search needs) (λ c. search needs)
+    (λ c. search needs) (λ c κs. search needs) returns)

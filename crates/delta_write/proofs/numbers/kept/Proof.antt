@@ -9,11 +9,8 @@ use Rattle.delta_write.proofs.numbers.kept.Tie as tie
 cast-kept32 : tie.Need-cast-kept32
 cast-kept32 c = wide-fits (c .args .z) (c .fits .z)
 
-kept32-requires : tie.Need-kept32-requires
-kept32-requires c κs = search needs
-
 returns : tie.Need-returns
 returns c = c .kept32 .ensures ∙ ap (modulo 32) (wide-is (c .before .args .z) (c .before .fits .z))
 
 pub kept-spec : {M : Type 1} → statement M
-kept-spec = tie.close (tie.spec cast-kept32 kept32-requires returns)
+kept-spec = tie.close (tie.spec cast-kept32 (λ c κs. search needs) returns)

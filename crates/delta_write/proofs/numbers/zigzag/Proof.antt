@@ -14,9 +14,6 @@ cast-zig c = wide-fits (c .args .z) (c .fits .z)
 gives : (c : tie.After-zig) → c .zig .result ≡ zigzagOf (c .before .args .z)
 gives c = c .zig .ensures ∙ ap zigzagOf (wide-is (c .before .args .z) (c .before .fits .z))
 
-zig-requires : tie.Need-zig-requires
-zig-requires c κs = search needs
-
 cast-result : tie.Need-cast-result
 cast-result c = omega (arith, gives c, zigzagOf-lt 32 (c .before .args .z) (c .before .fits .z .sfits))
 
@@ -24,4 +21,4 @@ returns : tie.Need-returns
 returns c = gives c
 
 pub zigzag-spec : {M : Type 1} → statement M
-zigzag-spec = tie.close (tie.spec cast-zig zig-requires cast-result returns)
+zigzag-spec = tie.close (tie.spec cast-zig (λ c κs. search needs) cast-result returns)

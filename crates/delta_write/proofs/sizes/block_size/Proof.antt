@@ -12,15 +12,6 @@ use borrow.Author.Needs.{needs}
 use Rattle.delta_write.proofs.sizes.block_size.Statement.{statement}
 use Rattle.delta_write.proofs.sizes.block_size.Tie as tie
 
-slice-aggregate-put-numbers : tie.Need-slice-aggregate-put-numbers
-slice-aggregate-put-numbers c = search needs
-
-put-numbers-requires : tie.Need-put-numbers-requires
-put-numbers-requires c κs = search needs
-
-size-of-requires : tie.Need-size-of-requires
-size-of-requires c κs = search needs
-
 add-result : tie.Need-add-result
 add-result c =
     let p = c .before .before .put-numbers in
@@ -28,7 +19,8 @@ add-result c =
 
 -- all parts together
 sized : (c : tie.After-bodies-size) → let a = c .before .before .before .before .before .before .args in
-    c .before .before .size-of .result + 4 + c .bodies-size .result ≡ length (block 32 (take (a .k) (drop (a .from) (deltas 32 (a .entries .now)))))
+    c .before .before .size-of .result + 4 + c .bodies-size .result
+    ≡ length (block 32 (take (a .k) (drop (a .from) (deltas 32 (a .entries .now)))))
 sized c =
     let s = c .before .before in
     let p = s .before .before in
@@ -37,18 +29,17 @@ sized c =
     let n = numbered 32 ds (rw length-take (omega arith)) (p .put-numbers .ensures .0) (p .put-numbers .ensures .1) in
     omega (arith, s .size-of .ensures, c .bodies-size .ensures, n .size)
 
-slice-aggregate-bodies-size : tie.Need-slice-aggregate-bodies-size
-slice-aggregate-bodies-size c = search needs
-
-bodies-size-requires : tie.Need-bodies-size-requires
-bodies-size-requires c κs = search needs
-
 add-result-2 : tie.Need-add-result-2
 add-result-2 c =
     let a = c .before .before .before .before .before .before .args in
     let all = deltas-within 32 (omega arith) (a .entries .now) in
     let ds = deltas 32 (a .entries .now) in
-    omega (arith, sized c, block-le 32 (omega arith) (take (a .k) (drop (a .from) ds)) (within-take 32 (omega arith) (a .k) (drop (a .from) ds) (within-drop 32 (omega arith) (a .from) ds all)))
+    omega (
+      arith,
+      sized c,
+      block-le 32 (omega arith) (take (a .k) (drop (a .from) ds))
+          (within-take 32 (omega arith) (a .k) (drop (a .from) ds) (within-drop 32 (omega arith) (a .from) ds all)),
+    )
 
 returns : tie.Need-returns
 returns c = sized c
@@ -57,11 +48,5 @@ pub block-size-spec : {M : Type 1} → statement M
 block-size-spec =
     tie.close
     (tie.spec
-    slice-aggregate-put-numbers
-    put-numbers-requires
-    size-of-requires
-    add-result
-    slice-aggregate-bodies-size
-    bodies-size-requires
-    add-result-2
-    returns)
+    (λ c. search needs) (λ c κs. search needs) (λ c κs. search needs) add-result (λ c. search needs)
+    (λ c κs. search needs) add-result-2 returns)

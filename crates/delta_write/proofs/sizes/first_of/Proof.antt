@@ -14,14 +14,12 @@ returns : tie.Need-returns
 unfolding zigzagOf
 returns c = sym (ap zigzagOf (List·getD-eq-default (c .before .args .entries .now) (pos 0) (omega arith)))
 
-shared-slice-copy-out-zigzag : tie.Need-shared-slice-copy-out-zigzag
-shared-slice-copy-out-zigzag c = search needs
-
-zigzag-requires : tie.Need-zigzag-requires
-zigzag-requires c κs = search needs
-
 returns-2 : tie.Need-returns-2
-returns-2 c = c .zigzag .ensures ∙ ap zigzagOf (kept w32 (getD (c .before .before .before .args .entries .now) 0 (pos 0)) (record { sfits = c .before .zigzag-arg .given }))
+returns-2 c =
+    c .zigzag .ensures
+    ∙ ap zigzagOf
+    (kept w32 (getD (c .before .before .before .args .entries .now) 0 (pos 0))
+    (record { sfits = c .before .zigzag-arg .given }))
 
 pub first-of-spec : {M : Type 1} → statement M
-first-of-spec = tie.close (tie.spec returns shared-slice-copy-out-zigzag zigzag-requires returns-2)
+first-of-spec = tie.close (tie.spec returns (λ c. search needs) (λ c κs. search needs) returns-2)

@@ -10,12 +10,12 @@ use borrow.Author.Needs.{needs}
 use Rattle.delta_write.proofs.sizes.header_size.Statement.{statement}
 use Rattle.delta_write.proofs.sizes.header_size.Tie as tie
 
-size-of-requires : tie.Need-size-of-requires
-size-of-requires c κs = search needs
-
 -- each number takes at most 5 bytes
 two : (c : tie.After-size-of2) → (c .before .size-of .result ≤ 5) × (c .size-of2 .result ≤ 5)
-two c = (rw (c .before .size-of .ensures) (shortest-size 32 128 (omega arith) .1), rw (c .size-of2 .ensures) (shortest-size 32 4 (omega arith) .1))
+two c = (
+  rw (c .before .size-of .ensures) (shortest-size 32 128 (omega arith) .1),
+  rw (c .size-of2 .ensures) (shortest-size 32 4 (omega arith) .1),
+)
 
 three : (c : tie.After-size-of3) → c .size-of3 .result ≤ 5
 three c =
@@ -25,26 +25,11 @@ three c =
 four : (c : tie.After-size-of4) → c .size-of4 .result ≤ 5
 four c = rw (c .size-of4 .ensures) (shortest-size 32 (c .before .first-of .result) (c .before .first-of .ok) .1)
 
-size-of-requires-2 : tie.Need-size-of-requires-2
-size-of-requires-2 c κs = search needs
-
 add-result : tie.Need-add-result
 add-result c = omega (arith, two c)
 
-cast-size-of : tie.Need-cast-size-of
-cast-size-of c = search needs
-
-size-of-requires-3 : tie.Need-size-of-requires-3
-size-of-requires-3 c κs = search needs
-
 add-result-2 : tie.Need-add-result-2
 add-result-2 c = omega (arith, two (c .before), three c)
-
-first-of-requires : tie.Need-first-of-requires
-first-of-requires c κs = search needs
-
-size-of-requires-4 : tie.Need-size-of-requires-4
-size-of-requires-4 c κs = search needs
 
 add-result-3 : tie.Need-add-result-3
 add-result-3 c = omega (arith, two (c .before .before .before), three (c .before .before), four c)
@@ -53,8 +38,16 @@ returns : tie.Need-returns
 returns c =
     let t = c .before .before in
     let first = c .before .first-of .ensures in
-    let last : c .size-of4 .result ≡ length (shortest _) = c .size-of4 .ensures ∙ ap (λ (x : ℕ). length (shortest x)) first in (
-      omega (arith, last, t .size-of3 .ensures, t .before .size-of2 .ensures, t .before .before .size-of .ensures, length-header (t .before .before .before .args .entries .now)),
+    let last : c .size-of4 .result ≡ length (shortest _) = c .size-of4 .ensures ∙ ap
+    (λ (x : ℕ). length (shortest x)) first in (
+      omega (
+        arith,
+        last,
+        t .size-of3 .ensures,
+        t .before .size-of2 .ensures,
+        t .before .before .size-of .ensures,
+        length-header (t .before .before .before .args .entries .now),
+      ),
       omega (arith, two (t .before), three t, four c),
     )
 
@@ -62,13 +55,5 @@ pub header-size-spec : {M : Type 1} → statement M
 header-size-spec =
     tie.close
     (tie.spec
-    size-of-requires
-    size-of-requires-2
-    add-result
-    cast-size-of
-    size-of-requires-3
-    add-result-2
-    first-of-requires
-    size-of-requires-4
-    add-result-3
-    returns)
+    (λ c κs. search needs) (λ c κs. search needs) add-result (λ c. search needs) (λ c κs. search needs)
+    add-result-2 (λ c κs. search needs) (λ c κs. search needs) add-result-3 returns)

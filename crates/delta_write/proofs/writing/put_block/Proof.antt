@@ -1,4 +1,5 @@
--- `delta_write::writing::put_block` meets its contract: the smallest delta, the width bytes and the bodies are stored one behind another.
+-- `delta_write::writing::put_block` meets its contract: the smallest delta, the width bytes and the bodies are
+-- stored one behind another.
 use mathlib.Core.List.{_++_}
 use Prim.Native.Nat.{_+_}
 use native.Mathlib.Omega.{arith}
@@ -12,18 +13,14 @@ use borrow.Author.Needs.{needs}
 use Rattle.delta_write.proofs.writing.put_block.Statement.{statement}
 use Rattle.delta_write.proofs.writing.put_block.Tie as tie
 
-slice-aggregate-put-numbers : tie.Need-slice-aggregate-put-numbers
-slice-aggregate-put-numbers c = search needs
-
-put-numbers-requires : tie.Need-put-numbers-requires
-put-numbers-requires c κs = search needs
-
 -- the numbers make the block
 made : (c : tie.After-put-numbers) → let a = c .before .before .before .args in
-    Numbered 32 (take (a .k) (drop (a .from) (deltas 32 (a .entries .now)))) (c .put-numbers .result) (c .put-numbers .last .1 .1 .1 .0)
+    Numbered 32 (take (a .k) (drop (a .from) (deltas 32 (a .entries .now)))) (c .put-numbers .result)
+    (c .put-numbers .last .1 .1 .1 .0)
 made c =
     let a = c .before .before .before .args in
-    numbered 32 (take (a .k) (drop (a .from) (deltas 32 (a .entries .now)))) (rw length-take (omega arith)) (c .put-numbers .ensures .0) (c .put-numbers .ensures .1)
+    numbered 32 (take (a .k) (drop (a .from) (deltas 32 (a .entries .now)))) (rw length-take (omega arith))
+    (c .put-numbers .ensures .0) (c .put-numbers .ensures .1)
 
 put-number-requires : tie.Need-put-number-requires
 put-number-requires c κs =
@@ -37,10 +34,8 @@ one c =
     let p = c .before .before .before in
     let a = p .before .before .before .args in
     let n = made p in
-    stored-first (a .page .now) (a .at) (shortest (p .put-numbers .result)) (c .put-number .ensures .0) (c .put-number .ensures .1) (omega (arith, n .size))
-
-slice-aggregate-put-widths : tie.Need-slice-aggregate-put-widths
-slice-aggregate-put-widths c = search needs
+    stored-first (a .page .now) (a .at) (shortest (p .put-numbers .result)) (c .put-number .ensures .0)
+    (c .put-number .ensures .1) (omega (arith, n .size))
 
 put-widths-requires : tie.Need-put-widths-requires
 put-widths-requires c κs =
@@ -49,8 +44,13 @@ put-widths-requires c κs =
     let o = one d in
     (n .count, omega (arith, n .size))
 
-two : (c : tie.After-put-widths) → let d = c .before .before .before .before .before in let p = d .before .before .before in let a = p .before .before .before .args in
-    Stored (a .page .now) (a .at) (shortest (p .put-numbers .result) ++ widths 4 32 (p .put-numbers .last .1 .1 .1 .0)) (c .put-widths .last .1 .0) (d .put-number .result + 4)
+two : (c : tie.After-put-widths)
+    → let d = c .before .before .before .before .before in
+    let p = d .before .before .before in
+    let a = p .before .before .before .args in
+    Stored (a .page .now) (a .at)
+    (shortest (p .put-numbers .result) ++ widths 4 32 (p .put-numbers .last .1 .1 .1 .0))
+    (c .put-widths .last .1 .0) (d .put-number .result + 4)
 two c =
     let d = c .before .before .before .before .before in
     let p = d .before .before .before in
@@ -59,9 +59,6 @@ two c =
     let o = one d in
     let size = length-widths 4 32 ns in
     stored-behind (widths 4 32 ns) o (c .put-widths .ensures) (omega arith) (omega (arith, n .size))
-
-slice-aggregate-put-bodies : tie.Need-slice-aggregate-put-bodies
-slice-aggregate-put-bodies c = search needs
 
 add-put-bodies : tie.Need-add-put-bodies
 add-put-bodies c =
@@ -78,9 +75,6 @@ put-bodies-requires c κs =
     let n = made (w .before .before .before .before .before .before .before .before) in
     (n .count, omega (arith, n .size))
 
-same-length : tie.Need-same-length
-same-length c = search needs
-
 returns : tie.Need-returns
 returns c =
     let b = c .before .before in
@@ -89,20 +83,14 @@ returns c =
     let n = made p in
     let t = two w in
     let ns = p .put-numbers .last .1 .1 .1 .0 in
-    let all = stored-behind (bodies 4 32 ns) t (b .put-bodies .ensures .0) (b .put-bodies .ensures .1) (omega (arith, n .size)) in
+    let all =
+    stored-behind (bodies 4 32 ns) t (b .put-bodies .ensures .0) (b .put-bodies .ensures .1)
+    (omega (arith, n .size)) in
     (rw (n .whole) (all .stored), rw (n .whole) (all .reached))
 
 pub put-block-spec : {M : Type 1} → statement M
 put-block-spec =
     tie.close
     (tie.spec
-    slice-aggregate-put-numbers
-    put-numbers-requires
-    put-number-requires
-    slice-aggregate-put-widths
-    put-widths-requires
-    slice-aggregate-put-bodies
-    add-put-bodies
-    put-bodies-requires
-    same-length
-    returns)
+    (λ c. search needs) (λ c κs. search needs) put-number-requires (λ c. search needs) put-widths-requires
+    (λ c. search needs) add-put-bodies put-bodies-requires (λ c. search needs) returns)

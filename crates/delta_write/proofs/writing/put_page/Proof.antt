@@ -8,62 +8,56 @@ use lib.ListN.{length, drop}
 use Rattle.rules.specs.Bits.{put}
 use Rattle.rules.specs.DeltaWriter.{deltas}
 use Rattle.words.specs.Puts.{put-none, put-behind}
-use Rattle.delta_write.specs.Blocks.{allBlocks, Begins, begins, put-turn, blocks-past, header, page-is, length-page}
+use Rattle.delta_write.specs.Blocks.{allBlocks, Begins, begins, put-turn, blocks-past, header, page-is}
+use Rattle.delta_write.specs.Blocks.{length-page}
 use borrow.Author.Needs.{needs}
 use Rattle.delta_write.proofs.writing.put_page.Statement.{statement}
 use Rattle.delta_write.proofs.writing.put_page.Tie as tie
 
 abbrev Inv-loop : tie.InvT-loop
 Inv-loop entries page₀ at₀ from₀ page at from =
-    (from ≤ length entries + 127) × (length page ≡ length page₀) × (at + length (allBlocks 32 (drop from (deltas 32 entries))) ≡ at₀ + length (allBlocks 32 (deltas 32 entries)))
+    (from ≤ length entries + 127) × (length page ≡ length page₀)
+    × (at + length (allBlocks 32 (drop from (deltas 32 entries)))
+    ≡ at₀ + length (allBlocks 32 (deltas 32 entries)))
     × (put page at (allBlocks 32 (drop from (deltas 32 entries))) ≡ put page₀ at₀ (allBlocks 32 (deltas 32 entries)))
 
 abbrev μ-loop : tie.MeasureT-loop
 μ-loop entries page₀ at₀ from₀ page at from = length entries - from
 
 put-header-requires : tie.Need-put-header-requires Inv-loop μ-loop
-put-header-requires c κs = let s = c .before .before in (omega arith, omega (arith, length-page 32 (s .args .entries .now)))
+put-header-requires c κs =
+    let s = c .before .before in (omega arith, omega (arith, length-page 32 (s .args .entries .now)))
 
 loop-holds : tie.Need-loop-holds Inv-loop μ-loop
 loop-holds c = (omega arith, refl, refl, refl)
 
 -- the header is stored, and there is room for the blocks behind it
-room : (c : tie.After-put-header Inv-loop μ-loop) → c .put-header .result + length (allBlocks 32 (deltas 32 (c .before .before .before .args .entries .now))) ≤ length (c .put-header .last .1 .0)
+room : (c : tie.After-put-header Inv-loop μ-loop)
+    → c .put-header .result + length (allBlocks 32 (deltas 32 (c .before .before .before .args .entries .now)))
+    ≤ length (c .put-header .last .1 .0)
 room c =
     let s = c .before .before .before in
     let same : length (c .put-header .last .1 .0) ≡ length (s .args .page .now) = c .put-header .kept .1 .0 in
     omega (arith, c .put-header .ensures .1, length-page 32 (s .args .entries .now))
 
 -- the block of this turn
-next : (c : tie.After-min Inv-loop μ-loop) → let s = c .before .before .before .before .before .before .before .before in
+next : (c : tie.After-min Inv-loop μ-loop)
+    → let s = c .before .before .before .before .before .before .before .before in
     Begins 32 (s .args .entries .now) (c .before .before .loop .from) (c .min .result)
 next c =
     let s = c .before .before .before .before .before .before .before .before in
     begins 32 (s .args .entries .now) (c .before .before .loop .from) (c .before .loop-test .taken) (c .min .ensures)
 
-add-loop : tie.Need-add-loop Inv-loop μ-loop
-add-loop c = search needs
-
-sub-min : tie.Need-sub-min Inv-loop μ-loop
-sub-min c = search needs
-
-sub-min-2 : tie.Need-sub-min-2 Inv-loop μ-loop
-sub-min-2 c = search needs
-
-min-requires : tie.Need-min-requires Inv-loop μ-loop
-min-requires c κs = search needs
-
 put-block-requires : tie.Need-put-block-requires Inv-loop μ-loop
 put-block-requires c κs =
     let w = c .before in
-    let b = next w in
-    (omega arith, omega arith, omega arith, omega arith, omega (arith, room (w .before .before .before .before .before)))
-
-add-from : tie.Need-add-from Inv-loop μ-loop
-add-from c = search needs
-
-loop-less : tie.Need-loop-less Inv-loop μ-loop
-loop-less c = search needs
+    let b = next w in (
+      omega arith,
+      omega arith,
+      omega arith,
+      omega arith,
+      omega (arith, room (w .before .before .before .before .before)),
+    )
 
 loop-again : tie.Need-loop-again Inv-loop μ-loop
 loop-again c =
@@ -78,9 +72,6 @@ loop-again c =
       rw (d .put-block .ensures .0, d .put-block .ensures .1) (laid ∙ l .inv .3),
     )
 
-same-length : tie.Need-same-length Inv-loop μ-loop
-same-length c = search needs
-
 returns : tie.Need-returns Inv-loop μ-loop
 returns c =
     let l = c .before .loop in
@@ -90,24 +81,14 @@ returns c =
     let size = length-page 32 s in
     let past : allBlocks 32 (drop (l .from) (deltas 32 s)) ≡ [] = blocks-past 32 s (l .from) (c .loop-test .left) in
     put-none (l .page) (l .at) ∙ sym (ap (put (l .page) (l .at)) past) ∙ l .inv .3
-    ∙ put-behind (a .page .now) 0 (header s) (allBlocks 32 (deltas 32 s)) (h .put-header .ensures .0) (h .put-header .ensures .1 ∙ sym (zero-add _)) refl (omega arith)
+    ∙ put-behind (a .page .now) 0 (header s) (allBlocks 32 (deltas 32 s)) (h .put-header .ensures .0)
+    (h .put-header .ensures .1 ∙ sym (zero-add _)) refl (omega arith)
     ∙ ap (put (a .page .now) 0) (sym (page-is 32 s))
 
 pub put-page-spec : {M : Type 1} → statement M
 put-page-spec =
     tie.close
     (tie.spec
-    Inv-loop
-    μ-loop
-    put-header-requires
-    loop-holds
-    add-loop
-    sub-min
-    sub-min-2
-    min-requires
-    put-block-requires
-    add-from
-    loop-less
-    loop-again
-    same-length
-    returns)
+    Inv-loop μ-loop put-header-requires loop-holds (λ c. search needs) (λ c. search needs)
+    (λ c. search needs) (λ c κs. search needs) put-block-requires (λ c. search needs) (λ c. search needs)
+    loop-again (λ c. search needs) returns)

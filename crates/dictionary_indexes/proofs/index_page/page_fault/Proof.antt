@@ -1,4 +1,5 @@
--- `dictionary_indexes::index_page::page_fault` meets its contract: the width byte first, and then the stream behind it, whose indexes are looked at where one can be too large.
+-- `dictionary_indexes::index_page::page_fault` meets its contract: the width byte first, and then the stream behind
+-- it, whose indexes are looked at where one can be too large.
 use mathlib.Core.Path.{sym, ap, _∙_}
 use mathlib.Core.List.{List}
 use Prim.Native.Nat.{ℕ, _^_, _≤_, _<_}
@@ -23,9 +24,6 @@ returns c =
     let a = c .before .before .args in
     sym (then-found _ _ 5 (ap streamFault (indexes-none (a .n) (a .page .now) (c .if1 .taken))) (λ z. omega arith))
 
-shared-slice-read-width : tie.Need-shared-slice-read-width
-shared-slice-read-width c = search needs
-
 cast-width : tie.Need-cast-width
 cast-width c = omega (arith, c .shared-slice-known2 .given 0)
 
@@ -33,28 +31,10 @@ returns-2 : tie.Need-returns-2
 returns-2 c =
     let a = c .before .before .before .before .args in
     let some : 0 < length (a .page .now) = omega arith in
-    sym (then-found _ _ 1 (ap streamFault (indexes-some (a .n) (a .page .now) some) ∙ rw (lt-ltb 32 (widthOf (a .page .now)) (c .if2 .taken))) (λ z. omega arith))
-
-cast-if3 : tie.Need-cast-if3
-cast-if3 c = search needs
-
-shl-if3 : tie.Need-shl-if3
-shl-if3 c = search needs
-
-sub-stream-fault : tie.Need-sub-stream-fault
-sub-stream-fault c = search needs
-
-part-stream-fault-start : tie.Need-part-stream-fault-start
-part-stream-fault-start c = search needs
-
-part-stream-fault-end : tie.Need-part-stream-fault-end
-part-stream-fault-end c = search needs
-
-cast-stream-fault : tie.Need-cast-stream-fault
-cast-stream-fault c = search needs
-
-stream-fault-requires : tie.Need-stream-fault-requires
-stream-fault-requires c κs = search needs
+    sym
+    (then-found _ _ 1
+    (ap streamFault (indexes-some (a .n) (a .page .now) some)
+    ∙ rw (lt-ltb 32 (widthOf (a .page .now)) (c .if2 .taken))) (λ z. omega arith))
 
 returns-3 : tie.Need-returns-3
 returns-3 c =
@@ -65,25 +45,9 @@ returns-3 c =
     let some : 0 < length (a .page .now) = omega arith in
     let all : 2 ^ w ≤ a .limit = rw (one-shl 64 w (omega arith)) at (t .if3 .taken) in
     rw (part-rest (a .page .now) 1) at (c .stream-fault .ensures)
-    ∙ sym (then-last _ _ (none-large (a .limit) (a .n) (a .page .now) all) ∙ ap streamFault (indexes-some (a .n) (a .page .now) some) ∙ rw (le-ltb 32 w (e .if2 .left)))
-
-sub-runs-fault : tie.Need-sub-runs-fault
-sub-runs-fault c = search needs
-
-part-runs-fault-start : tie.Need-part-runs-fault-start
-part-runs-fault-start c = search needs
-
-part-runs-fault-end : tie.Need-part-runs-fault-end
-part-runs-fault-end c = search needs
-
-cast-runs-fault : tie.Need-cast-runs-fault
-cast-runs-fault c = search needs
-
-slice-aggregate-runs-fault : tie.Need-slice-aggregate-runs-fault
-slice-aggregate-runs-fault c = search needs
-
-runs-fault-requires : tie.Need-runs-fault-requires
-runs-fault-requires c κs = search needs
+    ∙ sym
+    (then-last _ _ (none-large (a .limit) (a .n) (a .page .now) all)
+    ∙ ap streamFault (indexes-some (a .n) (a .page .now) some) ∙ rw (le-ltb 32 w (e .if2 .left)))
 
 returns-4 : tie.Need-returns-4
 returns-4 c =
@@ -92,29 +56,17 @@ returns-4 c =
     let w = widthOf (a .page .now) in
     let some : 0 < length (a .page .now) = omega arith in
     c .before .runs-fault .ensures
-    ∙ ap (λ (l : List ℕ). streamFault (read w (a .n) l) then faulty (someBelow (a .n) (λ i. leb (a .limit) (streamEntry w (read w (a .n) l) i))) 15) (part-rest (a .page .now) 1)
+    ∙ ap
+    (λ (l : List ℕ). streamFault (read w (a .n) l) then faulty
+    (someBelow (a .n) (λ i. leb (a .limit) (streamEntry w (read w (a .n) l) i))) 15)
+    (part-rest (a .page .now) 1)
     ∙ sym (page-judged (a .limit) (a .n) (a .page .now) some (e .if2 .left))
 
 pub page-fault-spec : {M : Type 1} → statement M
 page-fault-spec =
     tie.close
     (tie.spec
-    returns
-    shared-slice-read-width
-    cast-width
-    returns-2
-    cast-if3
-    shl-if3
-    sub-stream-fault
-    part-stream-fault-start
-    part-stream-fault-end
-    cast-stream-fault
-    stream-fault-requires
-    returns-3
-    sub-runs-fault
-    part-runs-fault-start
-    part-runs-fault-end
-    cast-runs-fault
-    slice-aggregate-runs-fault
-    runs-fault-requires
-    returns-4)
+    returns (λ c. search needs) cast-width returns-2 (λ c. search needs) (λ c. search needs)
+    (λ c. search needs) (λ c. search needs) (λ c. search needs) (λ c. search needs) (λ c κs. search needs)
+    returns-3 (λ c. search needs) (λ c. search needs) (λ c. search needs) (λ c. search needs)
+    (λ c. search needs) (λ c κs. search needs) returns-4)

@@ -1,4 +1,5 @@
--- `dictionary_indexes::index_page::scan_range` meets its contract: a page without a fault has its width byte, and the stream behind it is good.
+-- `dictionary_indexes::index_page::scan_range` meets its contract: a page without a fault has its width byte, and
+-- the stream behind it is good.
 use mathlib.Core.Path.{refl, ap, _∙_}
 use mathlib.Core.List.{List}
 use Prim.Native.Nat.{ℕ}
@@ -13,7 +14,7 @@ use Rattle.dictionary_indexes.proofs.index_page.scan_range.Statement.{s
 use Rattle.dictionary_indexes.proofs.index_page.scan_range.Tie as tie
 
 good : (c : tie.Start) → Good (c .args .n) (c .args .page .now)
-good c = good-page _ _ (c .pre .4)
+good c = good-page _ _ (c .pre .2)
 
 shared-slice-read-width : tie.Need-shared-slice-read-width
 shared-slice-read-width c = good (c .before .before .before) .some
@@ -27,19 +28,10 @@ sub-mark-runs c = omega (arith, good (c .before .before .before) .some)
 part-mark-runs-start : tie.Need-part-mark-runs-start
 part-mark-runs-start c = let g = good (c .before .before .before) in search needs
 
-part-mark-runs-end : tie.Need-part-mark-runs-end
-part-mark-runs-end c = search needs
-
 mark-runs-requires : tie.Need-mark-runs-requires
 mark-runs-requires c κs =
     let s = c .before .before .before .before .before in
-    (good s .within, s .pre .0, s .pre .1, s .pre .2, s .pre .3)
-
-counted-requires : tie.Need-counted-requires
-counted-requires c κs = search needs
-
-same-length : tie.Need-same-length
-same-length c = search needs
+    (good s .within, s .pre .0, s .pre .1, s .pre .3)
 
 returns : tie.Need-returns
 returns c =
@@ -47,20 +39,14 @@ returns c =
     let s = m .before .before .before .before .before .before in
     let a = s .args in
     let bits = m .mark-runs .ensures
-    ∙ ap (λ (l : List ℕ). marked (ranged (a .range)) (widthOf (a .page .now)) (a .n) l (a .bitmap .now)) (part-rest (a .page .now) 1)
-    ∙ indexes-marked (ranged (a .range)) (a .n) (a .page .now) (a .bitmap .now) (s .pre .4) in
+    ∙ ap (λ (l : List ℕ). marked (ranged (a .range)) (widthOf (a .page .now)) (a .n) l (a .bitmap .now))
+    (part-rest (a .page .now) 1)
+    ∙ indexes-marked (ranged (a .range)) (a .n) (a .page .now) (a .bitmap .now) (s .pre .2) in
     scanned-is 0 (a .n) _ _ _ _ refl bits (c .counted .ensures)
 
 pub scan-range-spec : {M : Type 1} → statement M
 scan-range-spec =
     tie.close
     (tie.spec
-    shared-slice-read-width
-    cast-width
-    sub-mark-runs
-    part-mark-runs-start
-    part-mark-runs-end
-    mark-runs-requires
-    counted-requires
-    same-length
-    returns)
+    shared-slice-read-width cast-width sub-mark-runs part-mark-runs-start (λ c. search needs)
+    mark-runs-requires (λ c κs. search needs) (λ c. search needs) returns)

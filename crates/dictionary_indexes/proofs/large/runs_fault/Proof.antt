@@ -1,5 +1,6 @@
--- `dictionary_indexes::large::runs_fault` meets its contract. The loop's invariant: the code is what judging on from here gives, and what was found with
--- what going on finds is what the pass finds. Each run has an entry, so fewer are left with each turn.
+-- `dictionary_indexes::large::runs_fault` meets its contract. The loop's invariant: the code is what judging on
+-- from here gives, and what was found with what going on finds is what the pass finds. Each run has an entry, so
+-- fewer are left with each turn.
 use mathlib.Core.Path.{_≡_, refl, sym, _∙_}
 use mathlib.Core.Bool.{false}
 use Prim.Native.Nat.{_+_, _-_, _≤_}
@@ -16,45 +17,43 @@ use Rattle.runs_read.specs.RunRead.{ran-repeated, ran-packed}
 use Rattle.runs_read.specs.Walks.{on-end}
 use Rattle.runs_read.specs.TwoPasses.{judge}
 use Rattle.runs_walk.specs.CountedTurns.{onward, begins, on-repeated, on-packed, ends}
-use Rattle.dictionary_indexes.specs.SomeEntry.{seeks, sought, sought-pass, seeks-same, seeks-body, judging, judging-begins, judging-repeated, judging-packed, judging-refused, then-sought}
+use Rattle.dictionary_indexes.specs.SomeEntry.{seeks, sought, sought-pass, seeks-same, seeks-body, judging}
+use Rattle.dictionary_indexes.specs.SomeEntry.{judging-begins, judging-repeated, judging-packed}
+use Rattle.dictionary_indexes.specs.SomeEntry.{judging-refused, then-sought}
 use Rattle.dictionary_indexes.proofs.large.runs_fault.Statement.{statement}
 use Rattle.dictionary_indexes.proofs.large.runs_fault.Tie as tie
 
 abbrev Inv-loop : tie.InvT-loop
-Inv-loop page w n limit marks₀ at₀ i₀ large₀ marks at i large =
-    (i ≤ n + 7) × (length marks ≡ length marks₀) × judging w n page at i × onward n (seeks (leb limit)) w page (sought (leb limit) w n page) at i large
+Inv-loop page w n limit scratch₀ at₀ i₀ large₀ scratch at i large =
+    (i ≤ n + 7) × (length scratch ≡ length scratch₀) × judging w n page at i
+    × onward n (seeks (leb limit)) w page (sought (leb limit) w n page) at i large
 
 abbrev μ-loop : tie.MeasureT-loop
-μ-loop page w n limit marks₀ at₀ i₀ large₀ marks at i large = n - i
+μ-loop page w n limit scratch₀ at₀ i₀ large₀ scratch at i large = n - i
 
 loop-holds : tie.Need-loop-holds Inv-loop μ-loop
 loop-holds c =
-    let a = c .before .before .args in
-    (search needs, refl, judging-begins (a .w) (a .n) (a .page .now), begins (a .n) (seeks (leb (a .limit))) (a .w) (a .page .now) _ false (sought-pass _ _ _ _))
+    let a = c .before .before .args in (
+      search needs,
+      refl,
+      judging-begins (a .w) (a .n) (a .page .now),
+      begins (a .n) (seeks (leb (a .limit))) (a .w) (a .page .now) _ false (sought-pass _ _ _ _),
+    )
 
 -- the run that was read: equal entries, or groups
-repeated-run : (c : tie.After-known-told Inv-loop μ-loop) → let b = c .before .before .before .before .before in let a = b .before .before .before .args in let v = c .before .run .given .0 in
+repeated-run : (c : tie.After-known-told Inv-loop μ-loop)
+    → let b = c .before .before .before .before .before in
+    let a = b .before .before .before .args in
+    let v = c .before .run .given .0 in
     runAt (a .w) (a .n - b .loop .i) (a .page .now) (b .loop .at) ≡ Repeated (v .0) (v .1 .0) (v .1 .1 .0)
 repeated-run c = sym (c .before .before .before .run-at .ensures) ∙ c .before .run .given .1
 
-packed-run : (c : tie.After-known-told2 Inv-loop μ-loop) → let b = c .before .before .before .before .before in let a = b .before .before .before .args in let v = c .before .run2 .given .0 in
+packed-run : (c : tie.After-known-told2 Inv-loop μ-loop)
+    → let b = c .before .before .before .before .before in
+    let a = b .before .before .before .args in
+    let v = c .before .run2 .given .0 in
     runAt (a .w) (a .n - b .loop .i) (a .page .now) (b .loop .at) ≡ Packed (v .0) (v .1 .0) (v .1 .1 .0)
 packed-run c = sym (c .before .before .before .run-at .ensures) ∙ c .before .run2 .given .1
-
-sub-run-at : tie.Need-sub-run-at Inv-loop μ-loop
-sub-run-at c = search needs
-
-run-at-requires : tie.Need-run-at-requires Inv-loop μ-loop
-run-at-requires c κs = search needs
-
-enum-known-run : tie.Need-enum-known-run Inv-loop μ-loop
-enum-known-run c = search needs
-
-cast-either : tie.Need-cast-either Inv-loop μ-loop
-cast-either c = search needs
-
-either-requires : tie.Need-either-requires Inv-loop μ-loop
-either-requires c κs = search needs
 
 add-i : tie.Need-add-i Inv-loop μ-loop
 add-i c = omega (arith, ran-repeated _ _ _ _ (repeated-run (c .before)))
@@ -76,28 +75,26 @@ loop-again c =
           (seeks-same (leb (a .limit)) (b .loop .i) (v .0) (v .1 .0) (b .loop .large) (ran .0) (c .either .ensures)),
     )
 
-enum-known-run-2 : tie.Need-enum-known-run-2 Inv-loop μ-loop
-enum-known-run-2 c = search needs
-
 mul-min : tie.Need-mul-min Inv-loop μ-loop
 mul-min c = omega (arith, ran-packed _ _ _ _ (packed-run c))
-
-sub-min : tie.Need-sub-min Inv-loop μ-loop
-sub-min c = search needs
-
-min-requires : tie.Need-min-requires Inv-loop μ-loop
-min-requires c κs = search needs
 
 some-packed-requires : tie.Need-some-packed-requires Inv-loop μ-loop
 some-packed-requires c κs =
     let r = c .before .before in
     let b = r .before .before .before .before .before in
     let ran = ran-packed _ _ _ _ (packed-run r) in
-    let m = c .before .min .ensures in
-    (search needs, omega arith, search needs, b .before .before .before .pre .3, omega (arith, body-fits (b .before .before .before .args .w) (r .before .run2 .given .0 .0) (c .before .min .result) (omega arith)), omega (arith, b .loop .inv .1))
-
-either-requires-2 : tie.Need-either-requires-2 Inv-loop μ-loop
-either-requires-2 c κs = search needs
+    let m = c .before .min .ensures in (
+      search needs,
+      omega arith,
+      search needs,
+      b .before .before .before .pre .3,
+      omega (
+        arith,
+        body-fits (b .before .before .before .args .w) (r .before .run2 .given .0 .0) (c .before .min .result)
+            (omega arith),
+      ),
+      omega (arith, b .loop .inv .1),
+    )
 
 mul-i : tie.Need-mul-i Inv-loop μ-loop
 mul-i c = omega (arith, ran-packed _ _ _ _ (packed-run (c .before .before .before .before .before .before)))
@@ -120,35 +117,25 @@ loop-again-2 c =
       search needs,
       judging-packed (a .w) (a .n) (a .page .now) (omega arith) (b .loop .inv .2) (packed-run r),
       on-packed _ (seeks (leb (a .limit))) _ _ _ (omega arith) (b .loop .inv .3) (packed-run r)
-          (seeks-body (leb (a .limit)) (a .page .now) (a .w) (v .1 .0) (v .0) (a .n - b .loop .i) (b .loop .i) (s .before .before .min .result) (b .loop .large) (s .some-packed .result)
+          (seeks-body (leb (a .limit)) (a .page .now) (a .w) (v .1 .0) (v .0) (a .n - b .loop .i) (b .loop .i)
+          (s .before .before .min .result) (b .loop .large) (s .some-packed .result)
           (s .before .before .min .ensures) (s .some-packed .ensures) (c .either2 .ensures)),
     )
-
-enum-known-run-3 : tie.Need-enum-known-run-3 Inv-loop μ-loop
-enum-known-run-3 c = search needs
-
-same-length : tie.Need-same-length Inv-loop μ-loop
-same-length c = search needs
 
 returns : tie.Need-returns Inv-loop μ-loop
 returns c =
     let b = c .before .before .before .before .before in
     let a = b .before .before .before .args in
-    sym (judging-refused (a .w) (a .n) (a .page .now) (search needs) (b .loop .inv .2) _ (sym (c .before .before .before .run-at .ensures) ∙ c .before .run3 .given .1))
-
-large-fault-requires : tie.Need-large-fault-requires Inv-loop μ-loop
-large-fault-requires c κs = search needs
-
-same-length-2 : tie.Need-same-length-2 Inv-loop μ-loop
-same-length-2 c = search needs
+    sym
+    (judging-refused (a .w) (a .n) (a .page .now) (search needs) (b .loop .inv .2) _
+    (sym (c .before .before .before .run-at .ensures) ∙ c .before .run3 .given .1))
 
 returns-2 : tie.Need-returns-2 Inv-loop μ-loop
 returns-2 c =
     let l = c .before .before .before in
-    sym (then-found _ _ 6 (on-end judge (l .loop .inv .2) (search needs) ∙ rw (lt-ltb _ _ (c .if1 .taken))) (λ z. omega arith))
-
-same-length-3 : tie.Need-same-length-3 Inv-loop μ-loop
-same-length-3 c = search needs
+    sym
+    (then-found _ _ 6 (on-end judge (l .loop .inv .2) (search needs) ∙ rw (lt-ltb _ _ (c .if1 .taken)))
+    (λ z. omega arith))
 
 returns-3 : tie.Need-returns-3 Inv-loop μ-loop
 returns-3 c =
@@ -156,39 +143,16 @@ returns-3 c =
     let a = l .before .before .before .args in
     c .before .large-fault .ensures
     ∙ sym
-    (then-sought (a .w) (a .n) (a .page .now) (leb (a .limit)) (l .loop .large) (on-end judge (l .loop .inv .2) (search needs) ∙ rw (le-ltb _ _ (c .if1 .left)))
+    (then-sought (a .w) (a .n) (a .page .now) (leb (a .limit)) (l .loop .large)
+    (on-end judge (l .loop .inv .2) (search needs) ∙ rw (le-ltb _ _ (c .if1 .left)))
     (ends _ (seeks (leb (a .limit))) _ _ _ (l .loop .inv .3) (search needs)))
 
 pub runs-fault-spec : {M : Type 1} → statement M
 runs-fault-spec =
     tie.close
     (tie.spec
-    Inv-loop
-    μ-loop
-    loop-holds
-    sub-run-at
-    run-at-requires
-    enum-known-run
-    cast-either
-    either-requires
-    add-i
-    loop-less
-    loop-again
-    enum-known-run-2
-    mul-min
-    sub-min
-    min-requires
-    some-packed-requires
-    either-requires-2
-    mul-i
-    add-i-2
-    loop-less-2
-    loop-again-2
-    enum-known-run-3
-    same-length
-    returns
-    large-fault-requires
-    same-length-2
-    returns-2
-    same-length-3
-    returns-3)
+    Inv-loop μ-loop loop-holds (λ c. search needs) (λ c κs. search needs) (λ c. search needs)
+    (λ c. search needs) (λ c κs. search needs) add-i loop-less loop-again (λ c. search needs) mul-min
+    (λ c. search needs) (λ c κs. search needs) some-packed-requires (λ c κs. search needs) mul-i add-i-2
+    loop-less-2 loop-again-2 (λ c. search needs) (λ c. search needs) returns (λ c κs. search needs)
+    (λ c. search needs) returns-2 (λ c. search needs) returns-3)

@@ -1,4 +1,5 @@
--- `dictionary_indexes::large::some_counted` meets its contract: those too large are the entries outside the range below the limit, and some are if one or more are counted.
+-- `dictionary_indexes::large::some_counted` meets its contract: those too large are the entries outside the range
+-- below the limit, and some are if one or more are counted.
 use mathlib.Core.Path.{ap, _∙_}
 use mathlib.Core.Bool.{true}
 use Prim.Native.Nat.{ℕ, _-_, _*_, _≤_}
@@ -11,7 +12,7 @@ use Rattle.rules.specs.Bits.{ceil, put}
 use Rattle.rules.specs.declared.Answer.{Answer}
 use Rattle.bitmaps.specs.Counts.{countOnes}
 use Rattle.compare.specs.Range.{ranged}
-use Rattle.compare.specs.Ranges.{to-whole}
+use Rattle.compare.specs.Ranges.{to-whole, usable}
 use Rattle.compare.specs.declared.ranges.Range.{Range}
 use Rattle.packed_kernels.specs.Selected.{selected}
 use Rattle.dictionary_indexes.specs.Large.{some-selected}
@@ -23,43 +24,18 @@ few-bits : (m w : ℕ) → m ≤ 16384 → w ≤ 32 → m * w ≤ 524288
 few-bits m w h k = mul-le-mul {n₁ = m} {m₁ = w} {n₂ = 16384} {m₂ = 32} h k
 
 mul-min : tie.Need-mul-min
-mul-min c = let b = c .before .before in omega (arith, few-bits (b .args .m) (b .args .w) (search needs) (search needs))
+mul-min c =
+    let b = c .before .before in omega (arith, few-bits (b .args .m) (b .args .w) (search needs) (search needs))
 
 add-min : tie.Need-add-min
-add-min c = let b = c .before .before in omega (arith, few-bits (b .args .m) (b .args .w) (search needs) (search needs))
-
-add-min-2 : tie.Need-add-min-2
-add-min-2 c = search needs
-
-add-min-3 : tie.Need-add-min-3
-add-min-3 c = search needs
-
-min-requires : tie.Need-min-requires
-min-requires c κs = search needs
-
-sub-select : tie.Need-sub-select
-sub-select c = search needs
-
-part-select-start : tie.Need-part-select-start
-part-select-start c = search needs
-
-part-select-end : tie.Need-part-select-end
-part-select-end c = search needs
-
-range-to-requires : tie.Need-range-to-requires
-range-to-requires c κs = search needs
+add-min c =
+    let b = c .before .before in omega (arith, few-bits (b .args .m) (b .args .w) (search needs) (search needs))
 
 select-requires : tie.Need-select-requires
 select-requires c κs =
     let r = c .before in
     let whole = to-whole 0 (r .before .before .before .before .before .args .limit) true (omega arith) in
-    (search needs, search needs, search needs, search needs, search needs, rw (r .range-to .ensures) (whole .fits), rw (r .range-to .ensures) (whole .flips))
-
-counted-requires : tie.Need-counted-requires
-counted-requires c κs = search needs
-
-same-length : tie.Need-same-length
-same-length c = search needs
+    (search needs, search needs, search needs, search needs, search needs, rw (r .range-to .ensures) (usable whole))
 
 returns : tie.Need-returns
 returns c =
@@ -70,23 +46,17 @@ returns c =
     let part = take (end - a .start) (drop (a .start) (a .page .now)) in
     ap (λ (x : Answer). ltb 0 (x .number)) (c .before .counted .ensures)
     ∙ ap (λ l. ltb 0 (countOnes (take (ceil (a .m) 8) l))) (s .select .ensures)
-    ∙ ap (λ (x : Range). ltb 0 (countOnes (take (ceil (a .m) 8) (put (a .marks .now) 0 (selected part (a .m) (a .w) (ranged x)))))) (r .range-to .ensures)
-    ∙ some-selected (a .marks .now) (a .page .now) (a .start) (end - a .start) (a .w) (a .m) (a .limit) (omega arith) (search needs)
+    ∙ ap
+    (λ (x : Range). ltb 0
+    (countOnes (take (ceil (a .m) 8) (put (a .scratch .now) 0 (selected part (a .m) (a .w) (ranged x))))))
+    (r .range-to .ensures)
+    ∙ some-selected (a .scratch .now) (a .page .now) (a .start) (end - a .start) (a .w) (a .m) (a .limit)
+    (omega arith) (search needs)
 
 pub some-counted-spec : {M : Type 1} → statement M
 some-counted-spec =
     tie.close
     (tie.spec
-    mul-min
-    add-min
-    add-min-2
-    add-min-3
-    min-requires
-    sub-select
-    part-select-start
-    part-select-end
-    range-to-requires
-    select-requires
-    counted-requires
-    same-length
-    returns)
+    mul-min add-min (λ c. search needs) (λ c. search needs) (λ c κs. search needs) (λ c. search needs)
+    (λ c. search needs) (λ c. search needs) (λ c κs. search needs) select-requires (λ c κs. search needs)
+    (λ c. search needs) returns)

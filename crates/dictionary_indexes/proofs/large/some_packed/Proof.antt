@@ -1,4 +1,5 @@
--- `dictionary_indexes::large::some_packed` meets its contract: by windows where they hold the run, and else by marks.
+-- `dictionary_indexes::large::some_packed` meets its contract: by windows where they hold the run, and else by
+-- scratch.
 use mathlib.Core.Path.{_≡_, sym, ap, _∙_}
 use Prim.Native.Nat.{ℕ, _+_, _-_, _*_, _/_, _%_, _≤_, _<_}
 use native.Mathlib.Omega.{arith}
@@ -10,12 +11,6 @@ use Rattle.rules.specs.Bits.Order.{lowFirst}
 use Rattle.dictionary_indexes.specs.IndexWindows.{windows-hold}
 use Rattle.dictionary_indexes.proofs.large.some_packed.Statement.{statement}
 use Rattle.dictionary_indexes.proofs.large.some_packed.Tie as tie
-
-sub-in-windows : tie.Need-sub-in-windows
-sub-in-windows c = search needs
-
-in-windows-requires : tie.Need-in-windows-requires
-in-windows-requires c κs = search needs
 
 -- the run lies in windows
 held : (c : tie.Then1) → let a = c .before .before .before .before .args in
@@ -30,25 +25,14 @@ returns c =
     let a = c .before .before .before .before .before .args in
     let h = held (c .before) in
     let all : 8 * (a .m / 8) ≡ a .m = omega arith in
-    c .some-groups .ensures ∙ ap (λ (n : ℕ). someBelow n (λ k. leb (a .limit) (field lowFirst (a .page .now) (8 * a .start + k * a .w) (a .w)))) all
-
-some-counted-requires : tie.Need-some-counted-requires
-some-counted-requires c κs = search needs
-
-same-length : tie.Need-same-length
-same-length c = search needs
-
-returns-2 : tie.Need-returns-2
-returns-2 c = search needs
+    c .some-groups .ensures
+    ∙ ap
+    (λ (n : ℕ). someBelow n
+    (λ k. leb (a .limit) (field lowFirst (a .page .now) (8 * a .start + k * a .w) (a .w)))) all
 
 pub some-packed-spec : {M : Type 1} → statement M
 some-packed-spec =
     tie.close
     (tie.spec
-    sub-in-windows
-    in-windows-requires
-    some-groups-requires
-    returns
-    some-counted-requires
-    same-length
-    returns-2)
+    (λ c. search needs) (λ c κs. search needs) some-groups-requires returns (λ c κs. search needs)
+    (λ c. search needs) (λ c. search needs))

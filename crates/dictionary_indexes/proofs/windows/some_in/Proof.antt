@@ -1,4 +1,5 @@
--- `dictionary_indexes::windows::some_in` meets its contract. The loop's invariant: a bit of the sums is set where the groups passed have an index that is too large.
+-- `dictionary_indexes::windows::some_in` meets its contract. The loop's invariant: a bit of the sums is set where
+-- the groups passed have an index that is too large.
 use mathlib.Core.Path.{_≡_, refl, ap, ap₂, _∙_}
 use mathlib.Core.Bool.{_||_}
 use Prim.Native.Nat.{ℕ, _+_, _-_, _*_, _^_, _≤_}
@@ -19,7 +20,9 @@ use Rattle.dictionary_indexes.proofs.windows.some_in.Tie as tie
 
 abbrev Inv-loop : tie.InvT-loop
 Inv-loop page start n ones w groups limit large₀ at₀ g₀ large at g =
-    (g ≤ groups) × (at ≡ start + g * w) × (ltb 0 (bitAnd large (2 ^ w * ones)) ≡ someBelow (8 * g) (λ k. leb limit (field lowFirst page (8 * start + k * w) w)))
+    (g ≤ groups) × (at ≡ start + g * w)
+    × (ltb 0 (bitAnd large (2 ^ w * ones))
+    ≡ someBelow (8 * g) (λ k. leb limit (field lowFirst page (8 * start + k * w) w)))
 
 abbrev μ-loop : tie.MeasureT-loop
 μ-loop page start n ones w groups limit large₀ at₀ g₀ large at g = groups - g
@@ -32,20 +35,23 @@ group-sums-requires : tie.Need-group-sums-requires Inv-loop μ-loop
 group-sums-requires c κs =
     let l = c .before in
     let s = l .before .before in
-    let a = s .args in
-    (search needs, search needs, search needs, s .pre .3, s .pre .4, search needs, search needs, search needs, omega (arith, place-within (a .w) (l .loop .g) (a .groups) (omega arith), l .loop .inv .1))
+    let a = s .args in (
+      search needs,
+      search needs,
+      search needs,
+      s .pre .3,
+      s .pre .4,
+      search needs,
+      search needs,
+      search needs,
+      omega (arith, place-within (a .w) (l .loop .g) (a .groups) (omega arith), l .loop .inv .1),
+    )
 
 add-at : tie.Need-add-at Inv-loop μ-loop
 add-at c =
     let l = c .before .before in
     let a = l .before .before .args in
     omega (arith, place-within (a .w) (l .loop .g) (a .groups) (omega arith), l .loop .inv .1)
-
-add-g : tie.Need-add-g Inv-loop μ-loop
-add-g c = omega arith
-
-loop-less : tie.Need-loop-less Inv-loop μ-loop
-loop-less c = omega arith
 
 loop-again : tie.Need-loop-again Inv-loop μ-loop
 loop-again c =
@@ -58,14 +64,14 @@ loop-again c =
           ∙ next-group (a .page .now) (a .w) (a .limit) (a .start) (l .loop .g) (l .loop .at) (l .loop .inv .1),
     )
 
-pow-requires : tie.Need-pow-requires Inv-loop μ-loop
-pow-requires c κs = search needs
-
 mul-result : tie.Need-mul-result Inv-loop μ-loop
 mul-result c =
     let s = c .before .before .before .before in
     let a = s .args in
-    record { fits = rw (c .pow .ensures, s .pre .3) (every-fits (a .n) (2 * a .w) (a .w) _ (omega arith) (omega arith) (omega (arith, pow-pos (a .w)))) }
+    record {
+      fits = rw (c .pow .ensures, s .pre .3)
+          (every-fits (a .n) (2 * a .w) (a .w) _ (omega arith) (omega arith) (omega (arith, pow-pos (a .w))));
+    }
 
 returns : tie.Need-returns Inv-loop μ-loop
 returns c =
@@ -73,20 +79,14 @@ returns c =
     let a = l .before .before .args in
     let all : l .loop .g ≡ a .groups = omega arith in
     rw (c .pow .ensures)
-    (l .loop .inv .2 ∙ ap (λ (n : ℕ). someBelow (8 * n) (λ k. leb (a .limit) (field lowFirst (a .page .now) (8 * a .start + k * a .w) (a .w)))) all)
+    (l .loop .inv .2
+    ∙ ap
+    (λ (n : ℕ). someBelow (8 * n)
+    (λ k. leb (a .limit) (field lowFirst (a .page .now) (8 * a .start + k * a .w) (a .w)))) all)
 
 pub some-in-spec : {M : Type 1} → statement M
 some-in-spec =
     tie.close
     (tie.spec
-    Inv-loop
-    μ-loop
-    loop-holds
-    group-sums-requires
-    add-at
-    add-g
-    loop-less
-    loop-again
-    pow-requires
-    mul-result
-    returns)
+    Inv-loop μ-loop loop-holds group-sums-requires add-at (λ c. omega arith) (λ c. omega arith) loop-again
+    (λ c κs. search needs) mul-result returns)

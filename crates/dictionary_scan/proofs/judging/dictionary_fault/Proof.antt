@@ -13,17 +13,25 @@ returns-2 : tie.Need-returns-2
 unfolding dictionaryFault
 returns-2 c = rw (eq-eqb _ 0 (c .before .if1 .left), lt-ltb 65536 _ (c .if2 .taken))
 
-unordered-requires : tie.Need-unordered-requires
-unordered-requires c κs = search needs
-
 returns-3 : tie.Need-returns-3
 unfolding dictionaryFault
-returns-3 c = rw (eq-eqb _ 0 (c .before .before .before .if1 .left), le-ltb 65536 _ (c .before .before .if2 .left), ← c .before .unordered .ensures, c .if3 .taken)
+returns-3 c =
+    rw (
+      eq-eqb _ 0 (c .before .before .before .if1 .left),
+      le-ltb 65536 _ (c .before .before .if2 .left),
+      ← c .before .unordered .ensures,
+      c .if3 .taken,
+    )
 
 returns-4 : tie.Need-returns-4
 unfolding dictionaryFault
-returns-4 c = rw (eq-eqb _ 0 (c .before .before .before .if1 .left), le-ltb 65536 _ (c .before .before .if2 .left), ← c .before .unordered .ensures, c .if3 .left)
+returns-4 c =
+    rw (
+      eq-eqb _ 0 (c .before .before .before .if1 .left),
+      le-ltb 65536 _ (c .before .before .if2 .left),
+      ← c .before .unordered .ensures,
+      c .if3 .left,
+    )
 
 pub dictionary-fault-spec : {M : Type 1} → statement M
-dictionary-fault-spec =
-    tie.close (tie.spec returns returns-2 unordered-requires returns-3 returns-4)
+dictionary-fault-spec = tie.close (tie.spec returns returns-2 (λ c κs. search needs) returns-3 returns-4)

@@ -1,4 +1,5 @@
--- `dictionary_scan::judging::unordered` meets its contract. The loop's invariant: what was found is what the values up to k have.
+-- `dictionary_scan::judging::unordered` meets its contract. The loop's invariant: what was found is what the values
+-- up to k have.
 use mathlib.Core.Path.{_≡_, refl, ap, ap₂, _∙_}
 use mathlib.Core.Bool.{_||_}
 use Prim.Native.Nat.{ℕ, suc, _-_, _/_, _≤_}
@@ -18,7 +19,8 @@ use Rattle.dictionary_scan.proofs.judging.unordered.Statement.{statemen
 use Rattle.dictionary_scan.proofs.judging.unordered.Tie as tie
 
 abbrev Inv-loop : tie.InvT-loop
-Inv-loop dict count found₀ k₀ found k = (k ≤ count - 1) × (found ≡ someBelow k (λ j. leZ (value dict (suc j)) (value dict j)))
+Inv-loop dict count found₀ k₀ found k =
+    (k ≤ count - 1) × (found ≡ someBelow k (λ j. leZ (value dict (suc j)) (value dict j)))
 
 abbrev μ-loop : tie.MeasureT-loop
 μ-loop dict count found₀ k₀ found k = count - k
@@ -27,42 +29,27 @@ loop-holds : tie.Need-loop-holds Inv-loop μ-loop
 unfolding someBelow
 loop-holds c = (search needs, refl)
 
-add-loop : tie.Need-add-loop Inv-loop μ-loop
-add-loop c = search needs
-
-add-value-at : tie.Need-add-value-at Inv-loop μ-loop
-add-value-at c = search needs
-
-value-at-requires : tie.Need-value-at-requires Inv-loop μ-loop
-value-at-requires c κs = search needs
-
-value-at-requires-2 : tie.Need-value-at-requires-2 Inv-loop μ-loop
-value-at-requires-2 c κs = search needs
-
 -- the two values are read back from their bits
-tested : (c : tie.After-value-at2 Inv-loop μ-loop) → let l = c .before .before .before in let dict = l .before .before .args .dict .now in
-    leZ (toZ w32 (ofZ w32 (c .before .value-at .result))) (toZ w32 (ofZ w32 (c .value-at2 .result))) ≡ leZ (value dict (suc (l .loop .k))) (value dict (l .loop .k))
+tested : (c : tie.After-value-at2 Inv-loop μ-loop)
+    → let l = c .before .before .before in let dict = l .before .before .args .dict .now in
+    leZ (toZ w32 (ofZ w32 (c .before .value-at .result))) (toZ w32 (ofZ w32 (c .value-at2 .result)))
+    ≡ leZ (value dict (suc (l .loop .k))) (value dict (l .loop .k))
 tested c =
     let l = c .before .before .before in
     let dict = l .before .before .args .dict .now in
     ap₂ leZ
-    (toZ-ofZ w32 (c .before .value-at .result) (record { sfits = c .before .value-at .ok }) ∙ c .before .value-at .ensures ∙ ap (value dict) (add-one (l .loop .k)))
+    (toZ-ofZ w32 (c .before .value-at .result) (record { sfits = c .before .value-at .ok })
+    ∙ c .before .value-at .ensures ∙ ap (value dict) (add-one (l .loop .k)))
     (toZ-ofZ w32 (c .value-at2 .result) (record { sfits = c .value-at2 .ok }) ∙ c .value-at2 .ensures)
-
-either-requires : tie.Need-either-requires Inv-loop μ-loop
-either-requires c κs = search needs
-
-add-k : tie.Need-add-k Inv-loop μ-loop
-add-k c = search needs
-
-loop-less : tie.Need-loop-less Inv-loop μ-loop
-loop-less c = search needs
 
 loop-again : tie.Need-loop-again Inv-loop μ-loop
 loop-again c =
     let l = c .before .before .before .before in
-    let dict = l .before .before .args .dict .now in
-    (omega arith, c .either .ensures ∙ ap₂ _||_ (l .loop .inv .1) (tested (c .before)) ∙ some-next (l .loop .k) (λ j. leZ (value dict (suc j)) (value dict j)))
+    let dict = l .before .before .args .dict .now in (
+      omega arith,
+      c .either .ensures ∙ ap₂ _||_ (l .loop .inv .1) (tested (c .before))
+          ∙ some-next (l .loop .k) (λ j. leZ (value dict (suc j)) (value dict j)),
+    )
 
 returns : tie.Need-returns Inv-loop μ-loop
 unfolding Dictionary.unordered
@@ -76,15 +63,6 @@ pub unordered-spec : {M : Type 1} → statement M
 unordered-spec =
     tie.close
     (tie.spec
-    Inv-loop
-    μ-loop
-    loop-holds
-    add-loop
-    add-value-at
-    value-at-requires
-    value-at-requires-2
-    either-requires
-    add-k
-    loop-less
-    loop-again
+    Inv-loop μ-loop loop-holds (λ c. search needs) (λ c. search needs) (λ c κs. search needs)
+    (λ c κs. search needs) (λ c κs. search needs) (λ c. search needs) (λ c. search needs) loop-again
     returns)

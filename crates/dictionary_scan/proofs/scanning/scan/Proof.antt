@@ -12,23 +12,15 @@ use Rattle.dictionary_scan.specs.Values.{value-within}
 use Rattle.dictionary_scan.proofs.scanning.scan.Statement.{statement}
 use Rattle.dictionary_scan.proofs.scanning.scan.Tie as tie
 
-signed-arguments-of-requires : tie.Need-signed-arguments-of-requires
-signed-arguments-of-requires c κs = search needs
-
 -- the constants come through the call as they are
-judgement : (c : tie.After-signed-arguments-of) → let a = c .before .before .before .before .args in argumentsOf (countFault (a .n)) (a .op) (a .a) (a .b) ≡ c .signed-arguments-of .result
+judgement : (c : tie.After-signed-arguments-of)
+    → let a = c .before .before .before .before .args in
+    argumentsOf (countFault (a .n)) (a .op) (a .a) (a .b) ≡ c .signed-arguments-of .result
 judgement c =
     let s = c .before .before .before .before in
-    sym (rw (toZ-ofZ w64 (s .args .a) (s .fits .a), toZ-ofZ w64 (s .args .b) (s .fits .b)) at (c .signed-arguments-of .ensures))
-
-enum-known-arguments : tie.Need-enum-known-arguments
-enum-known-arguments c = search needs
-
-refused-requires : tie.Need-refused-requires
-refused-requires c κs = search needs
-
-enum-known-arguments-2 : tie.Need-enum-known-arguments-2
-enum-known-arguments-2 c = search needs
+    sym
+    (rw (toZ-ofZ w64 (s .args .a) (s .fits .a), toZ-ofZ w64 (s .args .b) (s .fits .b)) at
+    (c .signed-arguments-of .ensures))
 
 scan-band-requires : tie.Need-scan-band-requires
 scan-band-requires c κs =
@@ -40,10 +32,8 @@ unfolding Dictionary.scan
 returns c =
     let s = c .before .before in
     let a = s .before .before .before .before .before .before .args in
-    scan-bad (countFault (a .n)) (a .op) (a .a) (a .b) _ _ _ _ _ _ (judgement (s .before .before) ∙ s .arguments .given .1) (c .refused .ensures)
-
-same-length : tie.Need-same-length
-same-length c = search needs
+    scan-bad (countFault (a .n)) (a .op) (a .a) (a .b) _ _ _ _ _ _
+    (judgement (s .before .before) ∙ s .arguments .given .1) (c .refused .ensures)
 
 returns-2 : tie.Need-returns-2
 unfolding Dictionary.scan
@@ -51,18 +41,13 @@ returns-2 c =
     let s = c .before .before .before .before .before in
     let a = s .before .before .before .before .before .before .args in
     let good = judgement (s .before .before) ∙ s .arguments2 .given .1 in
-    signed-good (a .n) (a .op) (a .a) (a .b) _ good _ (λ i. value (a .dict .now) (indexAt (a .n) (a .page .now) i)) _ _ _
+    signed-good (a .n) (a .op) (a .a) (a .b) _ good _ (λ i. value (a .dict .now) (indexAt (a .n) (a .page .now) i))
+    _ _ _
     (λ i. value-within (a .dict .now) (indexAt (a .n) (a .page .now) i)) (c .before .before .scan-band .ensures)
 
 pub scan-spec : {M : Type 1} → statement M
 scan-spec =
     tie.close
     (tie.spec
-    signed-arguments-of-requires
-    enum-known-arguments
-    refused-requires
-    enum-known-arguments-2
-    scan-band-requires
-    returns
-    same-length
-    returns-2)
+    (λ c κs. search needs) (λ c. search needs) (λ c κs. search needs) (λ c. search needs) scan-band-requires
+    returns (λ c. search needs) returns-2)

@@ -1,4 +1,5 @@
--- `dictionary_scan::searching::index_range` meets its contract: the band's ends are read back from their bits, and no place is past 16,384.
+-- `dictionary_scan::searching::index_range` meets its contract: the band's ends are read back from their bits, and
+-- no place is past 16,384.
 use mathlib.Core.Path.{_∙_}
 use mathlib.Core.Bool.{true}
 use native.Mathlib.Omega.{arith}
@@ -10,16 +11,14 @@ use Rattle.dictionary_scan.specs.ValuePlaces.{place-le, indexRange}
 use Rattle.dictionary_scan.proofs.searching.index_range.Statement.{statement}
 use Rattle.dictionary_scan.proofs.searching.index_range.Tie as tie
 
-place-of-requires : tie.Need-place-of-requires
-place-of-requires c κs = search needs
-
-place-of-requires-2 : tie.Need-place-of-requires-2
-place-of-requires-2 c κs = search needs
-
 range-to-requires : tie.Need-range-to-requires
 range-to-requires c κs =
     let s = c .before .before .before .before .before in
-    omega (arith, c .place-of2 .ensures, place-le (s .args .dict .now) (s .pre) true (toZ w64 (ofZ w64 (s .args .band .high))))
+    omega (
+      arith,
+      c .place-of2 .ensures,
+      place-le (s .args .dict .now) (s .pre) true (toZ w64 (ofZ w64 (s .args .band .high))),
+    )
 
 returns : tie.Need-returns
 unfolding indexRange
@@ -37,4 +36,4 @@ returns c =
 
 pub index-range-spec : {M : Type 1} → statement M
 index-range-spec =
-    tie.close (tie.spec place-of-requires place-of-requires-2 range-to-requires returns)
+    tie.close (tie.spec (λ c κs. search needs) (λ c κs. search needs) range-to-requires returns)

@@ -1,4 +1,5 @@
--- `dictionary_scan::searching::place_of` meets its contract. The loop's invariant: the place is neither before `from` nor behind `to`.
+-- `dictionary_scan::searching::place_of` meets its contract. The loop's invariant: the place is neither before
+-- `from` nor behind `to`.
 use mathlib.Core.Path.{_≡_, sym, ap, _∙_}
 use Prim.Native.Nat.{ℕ, _+_, _-_, _/_, _≤_}
 use native.Mathlib.Omega.{arith}
@@ -14,22 +15,14 @@ use Rattle.dictionary_scan.proofs.searching.place_of.Statement.{stateme
 use Rattle.dictionary_scan.proofs.searching.place_of.Tie as tie
 
 abbrev Inv-loop : tie.InvT-loop
-Inv-loop dict z equal from₀ to₀ from to = (from ≤ placeOf equal dict (toZ w64 z)) × (placeOf equal dict (toZ w64 z) ≤ to) × (to ≤ length dict / 4)
+Inv-loop dict z equal from₀ to₀ from to =
+    (from ≤ placeOf equal dict (toZ w64 z)) × (placeOf equal dict (toZ w64 z) ≤ to) × (to ≤ length dict / 4)
 
 abbrev μ-loop : tie.MeasureT-loop
 μ-loop dict z equal from₀ to₀ from to = to - from
 
 loop-holds : tie.Need-loop-holds Inv-loop μ-loop
 loop-holds c = (omega arith, place-within _ _ _, omega arith)
-
-add-middle : tie.Need-add-middle Inv-loop μ-loop
-add-middle c = search needs
-
-value-at-requires : tie.Need-value-at-requires Inv-loop μ-loop
-value-at-requires c κs = search needs
-
-is-before-requires : tie.Need-is-before-requires Inv-loop μ-loop
-is-before-requires c κs = search needs
 
 -- where the number belongs, and the middle of what is left
 abbrev place : tie.Start Inv-loop μ-loop → ℕ
@@ -39,7 +32,8 @@ abbrev middle : tie.At-loop Inv-loop μ-loop → ℕ
 middle l = (l .loop .from + l .loop .to) / 2
 
 -- whether the value in the middle is before the place
-tested : (c : tie.After-is-before Inv-loop μ-loop) → let l = c .before .before .before in ltb (middle l) (place (l .before .before)) ≡ c .is-before .result
+tested : (c : tie.After-is-before Inv-loop μ-loop)
+    → let l = c .before .before .before in ltb (middle l) (place (l .before .before)) ≡ c .is-before .result
 tested c =
     let l = c .before .before .before in
     let s = l .before .before in
@@ -47,21 +41,14 @@ tested c =
     let v = c .before .value-at in
     let z = toZ w64 (ofZ w64 (a .z)) in
     precedes-place (a .dict .now) (s .pre) (a .equal) z (middle l) (omega arith)
-    ∙ sym (c .is-before .ensures ∙ ap (precedes (a .equal) z) (toZ-ofZ w32 (v .result) (record { sfits = v .ok }) ∙ v .ensures))
-
-add-from : tie.Need-add-from Inv-loop μ-loop
-add-from c = search needs
-
-loop-less : tie.Need-loop-less Inv-loop μ-loop
-loop-less c = search needs
+    ∙ sym
+    (c .is-before .ensures
+    ∙ ap (precedes (a .equal) z) (toZ-ofZ w32 (v .result) (record { sfits = v .ok }) ∙ v .ensures))
 
 loop-again : tie.Need-loop-again Inv-loop μ-loop
 loop-again c =
     let l = c .before .before .before .before in
     omega (arith, ltb-true (middle l) (place (l .before .before)) (tested (c .before) ∙ c .if1 .taken))
-
-loop-less-2 : tie.Need-loop-less-2 Inv-loop μ-loop
-loop-less-2 c = search needs
 
 loop-again-2 : tie.Need-loop-again-2 Inv-loop μ-loop
 loop-again-2 c =
@@ -79,15 +66,5 @@ pub place-of-spec : {M : Type 1} → statement M
 place-of-spec =
     tie.close
     (tie.spec
-    Inv-loop
-    μ-loop
-    loop-holds
-    add-middle
-    value-at-requires
-    is-before-requires
-    add-from
-    loop-less
-    loop-again
-    loop-less-2
-    loop-again-2
-    returns)
+    Inv-loop μ-loop loop-holds (λ c. search needs) (λ c κs. search needs) (λ c κs. search needs)
+    (λ c. search needs) (λ c. search needs) loop-again (λ c. search needs) loop-again-2 returns)

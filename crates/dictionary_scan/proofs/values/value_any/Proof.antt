@@ -6,14 +6,8 @@ use Rattle.dictionary_scan.specs.Values.{value-past}
 use Rattle.dictionary_scan.proofs.values.value_any.Statement.{statement}
 use Rattle.dictionary_scan.proofs.values.value_any.Tie as tie
 
-value-at-requires : tie.Need-value-at-requires
-value-at-requires c κs = search needs
-
-returns : tie.Need-returns
-returns c = search needs
-
 returns-2 : tie.Need-returns-2
 returns-2 c = sym (value-past _ _ (omega arith))
 
 pub value-any-spec : {M : Type 1} → statement M
-value-any-spec = tie.close (tie.spec value-at-requires returns returns-2)
+value-any-spec = tie.close (tie.spec (λ c κs. search needs) (λ c. search needs) returns-2)

@@ -8,18 +8,12 @@ use Rattle.rules.specs.Dictionary.{value}
 use Rattle.dictionary_scan.proofs.values.value_at.Statement.{statement}
 use Rattle.dictionary_scan.proofs.values.value_at.Tie as tie
 
-mul-load4 : tie.Need-mul-load4
-mul-load4 c = search needs
-
-load4-requires : tie.Need-load4-requires
-load4-requires c κs = search needs
-
-signed32-requires : tie.Need-signed32-requires
-signed32-requires c κs = search needs
-
 returns : tie.Need-returns
 unfolding value
-returns c = toZ-ofZ w32 (c .signed32 .result) (record { sfits = c .signed32 .ok }) ∙ c .signed32 .ensures ∙ ap (signed 32) (c .before .load4 .ensures)
+returns c =
+    toZ-ofZ w32 (c .signed32 .result) (record { sfits = c .signed32 .ok }) ∙ c .signed32 .ensures
+    ∙ ap (signed 32) (c .before .load4 .ensures)
 
 pub value-at-spec : {M : Type 1} → statement M
-value-at-spec = tie.close (tie.spec mul-load4 load4-requires signed32-requires returns)
+value-at-spec =
+    tie.close (tie.spec (λ c. search needs) (λ c κs. search needs) (λ c κs. search needs) returns)

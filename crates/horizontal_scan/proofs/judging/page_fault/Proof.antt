@@ -25,42 +25,28 @@ unfolding pageFault _then_
 returns-2 c = rw (le-ltb _ _ (c .before .if1 .left), lt-ltb _ _ (c .if2 .taken))
 
 mul-entry-any : tie.Need-mul-entry-any
-mul-entry-any c = let a = c .before .before .before .args in omega (arith, bits-le (a .width) (a .n) (omega arith) (omega arith))
-
-sub-entry-any : tie.Need-sub-entry-any
-sub-entry-any c = search needs
-
-cast-entry-any : tie.Need-cast-entry-any
-cast-entry-any c = search needs
-
-entry-any-requires : tie.Need-entry-any-requires
-entry-any-requires c κs = search needs
+mul-entry-any c =
+    let a = c .before .before .before .args in omega (arith, bits-le (a .width) (a .n) (omega arith) (omega arith))
 
 returns-3 : tie.Need-returns-3
 unfolding pageFault _then_
 returns-3 c =
     let a = c .before .before .before .before .before .args in
-    let some : 0 < unused lowFirst (a .page .now) (a .width) (a .n) = rw (c .before .entry-any .ensures) at (c .if3 .taken) in
+    let some : 0 < unused lowFirst (a .page .now) (a .width) (a .n) =
+    rw (c .before .entry-any .ensures) at (c .if3 .taken) in
     rw (le-ltb _ _ (c .before .before .before .if1 .left), le-ltb _ _ (c .before .before .if2 .left), lt-ltb _ _ some)
 
 returns-4 : tie.Need-returns-4
 unfolding pageFault _then_
 returns-4 c =
     let a = c .before .before .before .before .before .args in
-    let none : unused lowFirst (a .page .now) (a .width) (a .n) ≤ 0 = rw (c .before .entry-any .ensures) at (c .if3 .left) in
+    let none : unused lowFirst (a .page .now) (a .width) (a .n) ≤ 0 =
+    rw (c .before .entry-any .ensures) at (c .if3 .left) in
     rw (le-ltb _ _ (c .before .before .before .if1 .left), le-ltb _ _ (c .before .before .if2 .left), le-ltb _ _ none)
 
 pub page-fault-spec : {M : Type 1} → statement M
 page-fault-spec =
     tie.close
     (tie.spec
-    mul-bits
-    add-bytes
-    returns
-    returns-2
-    mul-entry-any
-    sub-entry-any
-    cast-entry-any
-    entry-any-requires
-    returns-3
-    returns-4)
+    mul-bits add-bytes returns returns-2 mul-entry-any (λ c. search needs) (λ c. search needs)
+    (λ c κs. search needs) returns-3 returns-4)

@@ -6,21 +6,6 @@ use borrow.Author.Needs.{needs}
 use Rattle.lines.proofs.Line.byte.Statement.{statement}
 use Rattle.lines.proofs.Line.byte.Tie as tie
 
-place-requires : tie.Need-place-requires
-place-requires c κs = search needs
-
-digit-requires : tie.Need-digit-requires
-digit-requires c κs = search needs
-
-place-requires-2 : tie.Need-place-requires-2
-place-requires-2 c κs = search needs
-
-digit-requires-2 : tie.Need-digit-requires-2
-digit-requires-2 c κs = search needs
-
-place-requires-3 : tie.Need-place-requires-3
-place-requires-3 c κs = search needs
-
 returns : tie.Need-returns
 unfolding hexadecimal
 returns c =
@@ -31,9 +16,5 @@ pub byte-spec : {M : Type 1} → statement M
 byte-spec =
     tie.close
     (tie.spec
-    place-requires
-    digit-requires
-    place-requires-2
-    digit-requires-2
-    place-requires-3
-    returns)
+    (λ c κs. search needs) (λ c κs. search needs) (λ c κs. search needs) (λ c κs. search needs)
+    (λ c κs. search needs) returns)

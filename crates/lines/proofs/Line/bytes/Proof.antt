@@ -17,26 +17,19 @@ abbrev μ-loop : tie.MeasureT-loop
 loop-holds : tie.Need-loop-holds Inv-loop μ-loop
 unfolding held spelled
 loop-holds c =
-    let s = c .before in
-    (search needs, search needs, none (s .args .self .text) (s .args .self .used) (sized (s .args .self .text) (s .good .0 .1 .1 .0 .1 .0 .1)))
-
-shared-slice-read-byte : tie.Need-shared-slice-read-byte Inv-loop μ-loop
-shared-slice-read-byte c = search needs
-
-byte-requires : tie.Need-byte-requires Inv-loop μ-loop
-byte-requires c κs = search needs
-
-add-i : tie.Need-add-i Inv-loop μ-loop
-add-i c = search needs
-
-loop-less : tie.Need-loop-less Inv-loop μ-loop
-loop-less c = search needs
+    let s = c .before in (
+      search needs,
+      search needs,
+      none (s .args .self .text) (s .args .self .used)
+          (sized (s .args .self .text) (s .good .0 .1 .1 .0 .1 .0 .1)),
+    )
 
 loop-again : tie.Need-loop-again Inv-loop μ-loop
 loop-again c =
     let l = c .before .before .before .before in
     let s = l .before .before in
-    spelt-next hexadecimal (s .args .n) (s .args .list .now) (held (s .args .self)) (l .loop .i) (held (l .loop .line)) (l .loop .inv) (held (c .byte .result))
+    spelt-next hexadecimal (s .args .n) (s .args .list .now) (held (s .args .self)) (l .loop .i)
+    (held (l .loop .line)) (l .loop .inv) (held (c .byte .result))
     (omega arith)
     (omega (arith, ltb-true))
     (c .byte .ensures)
@@ -45,25 +38,19 @@ returns : tie.Need-returns Inv-loop μ-loop
 returns c =
     let l = c .before .before in
     let s = l .before .before in
-    spelt-list hexadecimal (s .args .n) (s .args .list .now) (held (s .args .self)) (l .loop .i) (held (l .loop .line)) (l .loop .inv) (omega (arith, ltb-false))
+    spelt-list hexadecimal (s .args .n) (s .args .list .now) (held (s .args .self)) (l .loop .i)
+    (held (l .loop .line)) (l .loop .inv) (omega (arith, ltb-false))
 
 returns-2 : tie.Need-returns-2 Inv-loop μ-loop
 returns-2 c =
     let l = c .before in
     let s = l .before .before in
-    spelt-all hexadecimal (s .args .n) (s .args .list .now) (held (s .args .self)) (l .loop .i) (held (l .loop .line)) (l .loop .inv) (omega arith)
+    spelt-all hexadecimal (s .args .n) (s .args .list .now) (held (s .args .self)) (l .loop .i)
+    (held (l .loop .line)) (l .loop .inv) (omega arith)
 
 pub bytes-spec : {M : Type 1} → statement M
 bytes-spec =
     tie.close
     (tie.spec
-    Inv-loop
-    μ-loop
-    loop-holds
-    shared-slice-read-byte
-    byte-requires
-    add-i
-    loop-less
-    loop-again
-    returns
-    returns-2)
+    Inv-loop μ-loop loop-holds (λ c. search needs) (λ c κs. search needs) (λ c. search needs)
+    (λ c. search needs) loop-again returns returns-2)

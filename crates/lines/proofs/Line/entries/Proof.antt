@@ -17,29 +17,19 @@ abbrev μ-loop : tie.MeasureT-loop
 loop-holds : tie.Need-loop-holds Inv-loop μ-loop
 unfolding held spelled
 loop-holds c =
-    let s = c .before in
-    (search needs, search needs, none (s .args .self .text) (s .args .self .used) (sized (s .args .self .text) (s .good .0 .1 .1 .0 .1 .0 .1)))
-
-mul-entry : tie.Need-mul-entry Inv-loop μ-loop
-mul-entry c = search needs
-
-shared-slice-read-entry : tie.Need-shared-slice-read-entry Inv-loop μ-loop
-shared-slice-read-entry c = search needs
-
-entry-requires : tie.Need-entry-requires Inv-loop μ-loop
-entry-requires c κs = search needs
-
-add-i : tie.Need-add-i Inv-loop μ-loop
-add-i c = search needs
-
-loop-less : tie.Need-loop-less Inv-loop μ-loop
-loop-less c = search needs
+    let s = c .before in (
+      search needs,
+      search needs,
+      none (s .args .self .text) (s .args .self .used)
+          (sized (s .args .self .text) (s .good .0 .1 .1 .0 .1 .0 .1)),
+    )
 
 loop-again : tie.Need-loop-again Inv-loop μ-loop
 loop-again c =
     let l = c .before .before .before .before in
     let s = l .before .before in
-    spelt-next decimal (s .args .n) (s .args .list .now) (held (s .args .self)) (l .loop .i) (held (l .loop .line)) (l .loop .inv) (held (c .entry .result))
+    spelt-next decimal (s .args .n) (s .args .list .now) (held (s .args .self)) (l .loop .i) (held (l .loop .line))
+    (l .loop .inv) (held (c .entry .result))
     (omega arith)
     (omega (arith, ltb-true))
     (c .entry .ensures)
@@ -48,26 +38,19 @@ returns : tie.Need-returns Inv-loop μ-loop
 returns c =
     let l = c .before .before in
     let s = l .before .before in
-    spelt-list decimal (s .args .n) (s .args .list .now) (held (s .args .self)) (l .loop .i) (held (l .loop .line)) (l .loop .inv) (omega (arith, ltb-false))
+    spelt-list decimal (s .args .n) (s .args .list .now) (held (s .args .self)) (l .loop .i) (held (l .loop .line))
+    (l .loop .inv) (omega (arith, ltb-false))
 
 returns-2 : tie.Need-returns-2 Inv-loop μ-loop
 returns-2 c =
     let l = c .before in
     let s = l .before .before in
-    spelt-all decimal (s .args .n) (s .args .list .now) (held (s .args .self)) (l .loop .i) (held (l .loop .line)) (l .loop .inv) (omega arith)
+    spelt-all decimal (s .args .n) (s .args .list .now) (held (s .args .self)) (l .loop .i) (held (l .loop .line))
+    (l .loop .inv) (omega arith)
 
 pub entries-spec : {M : Type 1} → statement M
 entries-spec =
     tie.close
     (tie.spec
-    Inv-loop
-    μ-loop
-    loop-holds
-    mul-entry
-    shared-slice-read-entry
-    entry-requires
-    add-i
-    loop-less
-    loop-again
-    returns
-    returns-2)
+    Inv-loop μ-loop loop-holds (λ c. search needs) (λ c. search needs) (λ c κs. search needs)
+    (λ c. search needs) (λ c. search needs) loop-again returns returns-2)

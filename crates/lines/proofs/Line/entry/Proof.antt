@@ -6,14 +6,8 @@ use borrow.Author.Needs.{needs}
 use Rattle.lines.proofs.Line.entry.Statement.{statement}
 use Rattle.lines.proofs.Line.entry.Tie as tie
 
-place-requires : tie.Need-place-requires
-place-requires c κs = search needs
-
-number-requires : tie.Need-number-requires
-number-requires c κs = search needs
-
 returns : tie.Need-returns
 returns c = let s = c .before .before in cc (laid-laid (held (s .args .self)) (32 ∷ []) (decimal (s .args .x)))
 
 pub entry-spec : {M : Type 1} → statement M
-entry-spec = tie.close (tie.spec place-requires number-requires returns)
+entry-spec = tie.close (tie.spec (λ c κs. search needs) (λ c κs. search needs) returns)

@@ -7,31 +7,17 @@ use borrow.Author.Needs.{needs}
 use Rattle.lines.proofs.Line.number.Statement.{statement}
 use Rattle.lines.proofs.Line.number.Tie as tie
 
-decimal-requires : tie.Need-decimal-requires
-decimal-requires c κs = search needs
-
-array-share-prefix-digits : tie.Need-array-share-prefix-digits
-array-share-prefix-digits c = search needs
-
-slice-aggregate-words : tie.Need-slice-aggregate-words
-slice-aggregate-words c = search needs
-
-words-requires : tie.Need-words-requires
-words-requires c κs = search needs
-
 returns : tie.Need-returns
 returns c =
     let d = c .before .before in
     let s = d .before .before in
     let e = d .decimal .ensures in
-    c .words .ensures ∙ ap (λ t. laid (held (s .args .self)) t) (e .1 .1 ∙ decimal-is (s .args .n) (d .decimal .result) (omega (arith, s .fits .n)) (e .1 .0))
+    c .words .ensures
+    ∙ ap (λ t. laid (held (s .args .self)) t)
+    (e .1 .1 ∙ decimal-is (s .args .n) (d .decimal .result) (omega (arith, s .fits .n)) (e .1 .0))
 
 pub number-spec : {M : Type 1} → statement M
 number-spec =
     tie.close
     (tie.spec
-    decimal-requires
-    array-share-prefix-digits
-    slice-aggregate-words
-    words-requires
-    returns)
+    (λ c κs. search needs) (λ c. search needs) (λ c. search needs) (λ c κs. search needs) returns)

@@ -11,19 +11,15 @@ returns : tie.Need-returns
 unfolding held
 returns c =
     let s = c .before in
-    full (s .args .self .text) (s .args .self .used) (sized (s .args .self .text) (s .good .0 .1 .1 .0 .1 .0 .1)) (s .args .b ∷ []) (omega arith)
-
-array-write-text : tie.Need-array-write-text
-array-write-text c = search needs
-
-add-t9 : tie.Need-add-t9
-add-t9 c = search needs
+    full (s .args .self .text) (s .args .self .used) (sized (s .args .self .text) (s .good .0 .1 .1 .0 .1 .0 .1))
+    (s .args .b ∷ []) (omega arith)
 
 returns-2 : tie.Need-returns-2
 unfolding held
 returns-2 c =
     let s = c .before .before in
-    one (s .args .self .text) (s .args .self .used) (sized (s .args .self .text) (s .good .0 .1 .1 .0 .1 .0 .1)) (s .args .b) (omega arith)
+    one (s .args .self .text) (s .args .self .used) (sized (s .args .self .text) (s .good .0 .1 .1 .0 .1 .0 .1))
+    (s .args .b) (omega arith)
 
 pub place-spec : {M : Type 1} → statement M
-place-spec = tie.close (tie.spec returns array-write-text add-t9 returns-2)
+place-spec = tie.close (tie.spec returns (λ c. search needs) (λ c. search needs) returns-2)

@@ -18,42 +18,32 @@ abbrev μ-loop : tie.MeasureT-loop
 
 loop-holds : tie.Need-loop-holds Inv-loop μ-loop
 unfolding held
-loop-holds c = (search needs, let s = c .before in none (s .args .self .text) (s .args .self .used) (sized (s .args .self .text) (s .good .0 .1 .1 .0 .1 .0 .1)))
-
-shared-slice-read-place : tie.Need-shared-slice-read-place Inv-loop μ-loop
-shared-slice-read-place c = search needs
-
-place-requires : tie.Need-place-requires Inv-loop μ-loop
-place-requires c κs = search needs
-
-add-i : tie.Need-add-i Inv-loop μ-loop
-add-i c = search needs
-
-loop-less : tie.Need-loop-less Inv-loop μ-loop
-loop-less c = search needs
+loop-holds c = (
+  search needs,
+  let s = c .before in
+      none (s .args .self .text) (s .args .self .used) (sized (s .args .self .text) (s .good .0 .1 .1 .0 .1 .0 .1)),
+)
 
 loop-again : tie.Need-loop-again Inv-loop μ-loop
 loop-again c =
     let l = c .before .before .before in
-    let s = l .before .before in
-    (omega arith, c .place .ensures ∙ next (held (s .args .self)) (held (l .loop .line)) (s .args .words .now) (l .loop .i) (omega arith) (l .loop .inv .1))
+    let s = l .before .before in (
+      omega arith,
+      c .place .ensures
+          ∙ next (held (s .args .self)) (held (l .loop .line)) (s .args .words .now) (l .loop .i) (omega arith)
+          (l .loop .inv .1),
+    )
 
 returns : tie.Need-returns Inv-loop μ-loop
 returns c =
     let l = c .before in
     let s = l .before .before in
-    l .loop .inv .1 ∙ ap (λ t. laid (held (s .args .self)) t) (take-all (l .loop .i) (s .args .words .now) (omega arith))
+    l .loop .inv .1
+    ∙ ap (λ t. laid (held (s .args .self)) t) (take-all (l .loop .i) (s .args .words .now) (omega arith))
 
 pub words-spec : {M : Type 1} → statement M
 words-spec =
     tie.close
     (tie.spec
-    Inv-loop
-    μ-loop
-    loop-holds
-    shared-slice-read-place
-    place-requires
-    add-i
-    loop-less
-    loop-again
-    returns)
+    Inv-loop μ-loop loop-holds (λ c. search needs) (λ c κs. search needs) (λ c. search needs)
+    (λ c. search needs) loop-again returns)

@@ -13,19 +13,16 @@ use Rattle.horizontal_scan.specs.GoodPage.{bits-le}
 use Rattle.pack.proofs.horizontal.pack.Statement.{statement}
 use Rattle.pack.proofs.horizontal.pack.Tie as tie
 
-unsigned-fault-requires : tie.Need-unsigned-fault-requires
-unsigned-fault-requires c κs = search needs
-
-refused-requires : tie.Need-refused-requires
-refused-requires c κs = search needs
-
 returns : tie.Need-returns
 unfolding Horizontal.pack
 returns c =
-    refused-is _ _ _ _ _ _ (c .refused .ensures) (then-found _ _ _ (sym (c .before .before .unsigned-fault .ensures)) (c .before .if1 .taken)) (c .before .if1 .taken)
+    refused-is _ _ _ _ _ _ (c .refused .ensures)
+    (then-found _ _ _ (sym (c .before .before .unsigned-fault .ensures)) (c .before .if1 .taken))
+    (c .before .if1 .taken)
 
 -- past the first refusal the column keeps to its limits
-kept : (c : tie.Else1) → let a = c .before .before .before .before .args in (a .width ≤ 32) × (length (a .entries .now) ≤ 16384)
+kept : (c : tie.Else1)
+    → let a = c .before .before .before .before .args in (a .width ≤ 32) × (length (a .entries .now) ≤ 16384)
 kept c = within-limits _ _ (sym (c .before .unsigned-fault .ensures) ∙ c .if1 .left)
 
 mul-bytes : tie.Need-mul-bytes
@@ -39,11 +36,12 @@ entries-fault-requires c κs = kept c .0
 
 -- all faults, in their order, come to the last code found
 faults : (c : tie.After-entries-fault) → let a = c .before .before .before .before .before .args in
-    (limitFault (a .width) (length (a .entries .now)) then largeFault (a .width) (a .entries .now) then roomFault (length (a .page .now)) (Horizontal.pageBytes (a .width) (length (a .entries .now)))) ≡ c .entries-fault .result
-faults c = then-none _ _ (sym (c .before .before .unsigned-fault .ensures) ∙ c .before .if1 .left) ∙ sym (c .entries-fault .ensures)
-
-refused-requires-2 : tie.Need-refused-requires-2
-refused-requires-2 c κs = search needs
+    (limitFault (a .width) (length (a .entries .now)) then largeFault (a .width) (a .entries .now)
+    then roomFault (length (a .page .now)) (Horizontal.pageBytes (a .width) (length (a .entries .now))))
+    ≡ c .entries-fault .result
+faults c =
+    then-none _ _ (sym (c .before .before .unsigned-fault .ensures) ∙ c .before .if1 .left)
+    ∙ sym (c .entries-fault .ensures)
 
 returns-2 : tie.Need-returns-2
 unfolding Horizontal.pack
@@ -56,34 +54,20 @@ pack-requires c κs =
     (k .0, k .1, fits-of _ _ (z .0), has-room _ _ (z .1))
 
 cast-accepted : tie.Need-cast-accepted
-cast-accepted c = let k = kept (c .before .before .before .before .before .before) in omega (arith, bits-le _ _ (k .0) (k .1))
-
-accepted-requires : tie.Need-accepted-requires
-accepted-requires c κs = search needs
-
-same-length : tie.Need-same-length
-same-length c = search needs
+cast-accepted c =
+    let k = kept (c .before .before .before .before .before .before) in omega (arith, bits-le _ _ (k .0) (k .1))
 
 returns-3 : tie.Need-returns-3
 unfolding Horizontal.pack
 returns-3 c =
     let s = c .before .before .before in
-    accepted-is _ _ _ _ _ _ (faults (s .before .before .before) ∙ s .before .before .if2 .left) (c .accepted .ensures ∙ ap accepted (sym (length-packed _ _ _))) (s .pack .ensures)
+    accepted-is _ _ _ _ _ _ (faults (s .before .before .before) ∙ s .before .before .if2 .left)
+    (c .accepted .ensures ∙ ap accepted (sym (length-packed _ _ _))) (s .pack .ensures)
 
 pub pack-spec : {M : Type 1} → statement M
 pack-spec =
     tie.close
     (tie.spec
-    unsigned-fault-requires
-    refused-requires
-    returns
-    mul-bytes
-    add-bytes
-    entries-fault-requires
-    refused-requires-2
-    returns-2
-    pack-requires
-    cast-accepted
-    accepted-requires
-    same-length
+    (λ c κs. search needs) (λ c κs. search needs) returns mul-bytes add-bytes entries-fault-requires
+    (λ c κs. search needs) returns-2 pack-requires cast-accepted (λ c κs. search needs) (λ c. search needs)
     returns-3)

@@ -12,19 +12,16 @@ use Rattle.runs_write.specs.Sizes.{stream-size-le}
 use Rattle.pack.proofs.runs.pack.Statement.{statement}
 use Rattle.pack.proofs.runs.pack.Tie as tie
 
-unsigned-fault-requires : tie.Need-unsigned-fault-requires
-unsigned-fault-requires c κs = search needs
-
-refused-requires : tie.Need-refused-requires
-refused-requires c κs = search needs
-
 returns : tie.Need-returns
 unfolding RunWriter.pack
 returns c =
-    refused-is _ _ _ _ _ _ (c .refused .ensures) (then-found _ _ _ (sym (c .before .before .unsigned-fault .ensures)) (c .before .if1 .taken)) (c .before .if1 .taken)
+    refused-is _ _ _ _ _ _ (c .refused .ensures)
+    (then-found _ _ _ (sym (c .before .before .unsigned-fault .ensures)) (c .before .if1 .taken))
+    (c .before .if1 .taken)
 
 -- past the first refusal the column keeps to its limits
-kept : (c : tie.Else1) → let a = c .before .before .before .before .args in (a .width ≤ 32) × (length (a .entries .now) ≤ 16384)
+kept : (c : tie.Else1)
+    → let a = c .before .before .before .before .args in (a .width ≤ 32) × (length (a .entries .now) ≤ 16384)
 kept c = within-limits _ _ (sym (c .before .unsigned-fault .ensures) ∙ c .if1 .left)
 
 stream-size-requires : tie.Need-stream-size-requires
@@ -35,18 +32,23 @@ entries-fault-requires c κs = kept (c .before) .0
 
 -- the entries, and then the room for their stream
 judged : (c : tie.After-entries-fault) → let a = c .before .before .before .before .before .before .args in
-    c .entries-fault .result ≡ (largeFault (a .width) (a .entries .now) then roomFault (length (a .page .now)) (length (RunWriter.stream (a .width) (a .entries .now))))
+    c .entries-fault .result
+    ≡ (largeFault (a .width) (a .entries .now)
+    then roomFault (length (a .page .now)) (length (RunWriter.stream (a .width) (a .entries .now))))
 judged c =
     let a = c .before .before .before .before .before .before .args in
-    c .entries-fault .ensures ∙ ap (λ (n : ℕ). largeFault (a .width) (a .entries .now) then roomFault (length (a .page .now)) n) (c .before .stream-size .ensures)
+    c .entries-fault .ensures
+    ∙ ap (λ (n : ℕ). largeFault (a .width) (a .entries .now) then roomFault (length (a .page .now)) n)
+    (c .before .stream-size .ensures)
 
 -- all faults, in their order, come to the last code found
 faults : (c : tie.After-entries-fault) → let a = c .before .before .before .before .before .before .args in
-    (limitFault (a .width) (length (a .entries .now)) then largeFault (a .width) (a .entries .now) then roomFault (length (a .page .now)) (length (RunWriter.stream (a .width) (a .entries .now)))) ≡ c .entries-fault .result
-faults c = then-none _ _ (sym (c .before .before .before .unsigned-fault .ensures) ∙ c .before .before .if1 .left) ∙ sym (judged c)
-
-refused-requires-2 : tie.Need-refused-requires-2
-refused-requires-2 c κs = search needs
+    (limitFault (a .width) (length (a .entries .now)) then largeFault (a .width) (a .entries .now)
+    then roomFault (length (a .page .now)) (length (RunWriter.stream (a .width) (a .entries .now))))
+    ≡ c .entries-fault .result
+faults c =
+    then-none _ _ (sym (c .before .before .before .unsigned-fault .ensures) ∙ c .before .before .if1 .left)
+    ∙ sym (judged c)
 
 returns-2 : tie.Need-returns-2
 unfolding RunWriter.pack
@@ -66,32 +68,18 @@ cast-accepted c =
     let k = kept (s .before) in
     omega (arith, stream-size-le (a .width) (k .0) (a .entries .now) (k .1))
 
-accepted-requires : tie.Need-accepted-requires
-accepted-requires c κs = search needs
-
-same-length : tie.Need-same-length
-same-length c = search needs
-
 returns-3 : tie.Need-returns-3
 unfolding RunWriter.pack
 returns-3 c =
     let s = c .before .before .before in
     let j = s .before .before .before in
-    accepted-is _ _ _ _ _ _ (faults j ∙ s .before .before .if2 .left) (c .accepted .ensures ∙ ap accepted (j .before .stream-size .ensures)) (s .put-stream .ensures)
+    accepted-is _ _ _ _ _ _ (faults j ∙ s .before .before .if2 .left)
+    (c .accepted .ensures ∙ ap accepted (j .before .stream-size .ensures)) (s .put-stream .ensures)
 
 pub pack-spec : {M : Type 1} → statement M
 pack-spec =
     tie.close
     (tie.spec
-    unsigned-fault-requires
-    refused-requires
-    returns
-    stream-size-requires
-    entries-fault-requires
-    refused-requires-2
-    returns-2
-    put-stream-requires
-    cast-accepted
-    accepted-requires
-    same-length
-    returns-3)
+    (λ c κs. search needs) (λ c κs. search needs) returns stream-size-requires entries-fault-requires
+    (λ c κs. search needs) returns-2 put-stream-requires cast-accepted (λ c κs. search needs)
+    (λ c. search needs) returns-3)

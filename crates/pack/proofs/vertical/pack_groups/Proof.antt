@@ -1,4 +1,5 @@
--- `pack::vertical::pack_groups` meets its contract. The loop's invariant: the planes of the groups passed are in place.
+-- `pack::vertical::pack_groups` meets its contract. The loop's invariant: the planes of the groups passed are in
+-- place.
 use mathlib.Core.Path.{_≡_, sym, ap, _∙_}
 use mathlib.Core.List.{List}
 use Prim.Native.Nat.{ℕ, _+_, _-_, _*_, _/_, _%_, _≤_}
@@ -16,13 +17,11 @@ use Rattle.pack.proofs.vertical.pack_groups.Tie as tie
 
 abbrev Inv-loop : tie.InvT-loop
 Inv-loop entries w words₀ groups g₀ words g =
-    (groups ≡ (length entries + 63) / 64) × (g ≤ groups) × (length words ≡ length words₀) × (words ≡ put words₀ 0 (tabulate (g * w) (λ i. plane w entries (i / w) (i % w))))
+    (groups ≡ (length entries + 63) / 64) × (g ≤ groups) × (length words ≡ length words₀)
+    × (words ≡ put words₀ 0 (tabulate (g * w) (λ i. plane w entries (i / w) (i % w))))
 
 abbrev μ-loop : tie.MeasureT-loop
 μ-loop entries w words₀ groups g₀ words g = groups - g
-
-add-groups : tie.Need-add-groups Inv-loop μ-loop
-add-groups c = omega arith
 
 loop-holds : tie.Need-loop-holds Inv-loop μ-loop
 unfolding tabulate
@@ -36,12 +35,6 @@ pack-one-requires c κs =
     let l = c .before .before .loop in
     omega (arith, place-within (a .w) (l .g) ((length (a .entries .now) + 63) / 64) (omega arith))
 
-add-g : tie.Need-add-g Inv-loop μ-loop
-add-g c = omega arith
-
-loop-less : tie.Need-loop-less Inv-loop μ-loop
-loop-less c = omega arith
-
 loop-again : tie.Need-loop-again Inv-loop μ-loop
 loop-again c =
     let s = c .before .before in
@@ -52,32 +45,29 @@ loop-again c =
       omega arith,
       omega arith,
       kept ∙ l .inv .2,
-      s .pack-one .ensures ∙ ap (λ (x : List ℕ). put x (l .g * a .w) (tabulate (a .w) (plane (a .w) (a .entries .now) (l .g)))) (l .inv .3)
-          ∙ next-group-planes (a .words .now) (a .entries .now) (a .w) (l .g) (omega (arith, place-within (a .w) (l .g) ((length (a .entries .now) + 63) / 64) (omega arith)))
-          ∙ ap (λ (k : ℕ). put (a .words .now) 0 (tabulate k (λ i. plane (a .w) (a .entries .now) (i / a .w) (i % a .w)))) more,
+      s .pack-one .ensures
+          ∙ ap (λ (x : List ℕ). put x (l .g * a .w) (tabulate (a .w) (plane (a .w) (a .entries .now) (l .g))))
+          (l .inv .3)
+          ∙ next-group-planes (a .words .now) (a .entries .now) (a .w) (l .g)
+          (omega (arith, place-within (a .w) (l .g) ((length (a .entries .now) + 63) / 64) (omega arith)))
+          ∙ ap
+          (λ (k : ℕ). put (a .words .now) 0
+          (tabulate k (λ i. plane (a .w) (a .entries .now) (i / a .w) (i % a .w)))) more,
     )
-
-same-length : tie.Need-same-length Inv-loop μ-loop
-same-length c = omega arith
 
 returns : tie.Need-returns Inv-loop μ-loop
 unfolding packed
 returns c =
     let a = c .before .before .before .before .args in
     let all : c .before .loop .g ≡ (length (a .entries .now) + 63) / 64 = omega arith in
-    c .before .loop .inv .3 ∙ ap (λ (k : ℕ). put (a .words .now) 0 (tabulate (k * a .w) (λ i. plane (a .w) (a .entries .now) (i / a .w) (i % a .w)))) all
+    c .before .loop .inv .3
+    ∙ ap
+    (λ (k : ℕ). put (a .words .now) 0
+    (tabulate (k * a .w) (λ i. plane (a .w) (a .entries .now) (i / a .w) (i % a .w)))) all
 
 pub pack-groups-spec : {M : Type 1} → statement M
 pack-groups-spec =
     tie.close
     (tie.spec
-    Inv-loop
-    μ-loop
-    add-groups
-    loop-holds
-    pack-one-requires
-    add-g
-    loop-less
-    loop-again
-    same-length
-    returns)
+    Inv-loop μ-loop (λ c. omega arith) loop-holds pack-one-requires (λ c. omega arith) (λ c. omega arith)
+    loop-again (λ c. omega arith) returns)

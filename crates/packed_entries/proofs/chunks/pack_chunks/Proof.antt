@@ -1,4 +1,5 @@
--- `packed_entries::chunks::pack_chunks` meets its contract: each turn lays k entries, as one number, behind those that are laid.
+-- `packed_entries::chunks::pack_chunks` meets its contract: each turn lays k entries, as one number, behind those
+-- that are laid.
 use mathlib.Core.Path.{_≡_, _∙_}
 use mathlib.Core.List.{[]}
 use Prim.Native.Nat.{_+_, _-_, _*_, _≤_}
@@ -20,18 +21,19 @@ use Rattle.packed_entries.proofs.chunks.pack_chunks.Statement.{statemen
 use Rattle.packed_entries.proofs.chunks.pack_chunks.Tie as tie
 
 abbrev Inv-loop : tie.InvT-loop
-Inv-loop entries i k c w part₀ bits j₀ part j = (j ≤ c) × (length part ≡ length part₀) × (part ≡ put part₀ 0 (packed lowFirst w (take (j * k) (drop i entries))))
+Inv-loop entries i k c w part₀ bits j₀ part j =
+    (j ≤ c) × (length part ≡ length part₀) × (part ≡ put part₀ 0 (packed lowFirst w (take (j * k) (drop i entries))))
 
 abbrev μ-loop : tie.MeasureT-loop
 μ-loop entries i k c w part₀ bits j₀ part j = c - j
 
-mul-bits : tie.Need-mul-bits Inv-loop μ-loop
-mul-bits c = search needs
-
 loop-holds : tie.Need-loop-holds Inv-loop μ-loop
 loop-holds c =
-    let a = c .before .before .args in
-    (omega arith, omega arith, rw (zero-mul (a .k), packed-none lowFirst (a .w) [] (zero-mul (a .w))) (put-none (a .part .now) 0))
+    let a = c .before .before .args in (
+      omega arith,
+      omega arith,
+      rw (zero-mul (a .k), packed-none lowFirst (a .w) [] (zero-mul (a .w))) (put-none (a .part .now) 0),
+    )
 
 mul-append-at : tie.Need-mul-append-at Inv-loop μ-loop
 mul-append-at c =
@@ -55,9 +57,6 @@ chunk-requires c κs =
     let a = s .args in
     (omega arith, omega (arith, place-within (a .k) (c .before .before .loop .j) (a .c) (omega arith)), s .pre .5)
 
-cast-append-at : tie.Need-cast-append-at Inv-loop μ-loop
-cast-append-at c = search needs
-
 append-at-requires : tie.Need-append-at-requires Inv-loop μ-loop
 append-at-requires c κs =
     let s = c .before .before .before .before .before .before in
@@ -68,15 +67,10 @@ append-at-requires c κs =
     let small = small-drop (a .w) at (a .entries .now) (small-of (a .w) (a .entries .now) (s .pre .5)) in (
       omega arith,
       mul-pos (s .pre .1) (s .pre .2),
-      rw (c .chunk .ensures) (first-below (a .w) (a .k) (drop at (a .entries .now)) (rw length-drop (omega arith)) small),
+      rw (c .chunk .ensures)
+          (first-below (a .w) (a .k) (drop at (a .entries .now)) (rw length-drop (omega arith)) small),
       omega (arith, place-within (a .k * a .w) j (a .c) (omega arith), mul-assoc (a .c) (a .k) (a .w)),
     )
-
-add-j : tie.Need-add-j Inv-loop μ-loop
-add-j c = search needs
-
-loop-less : tie.Need-loop-less Inv-loop μ-loop
-loop-less c = search needs
 
 loop-again : tie.Need-loop-again Inv-loop μ-loop
 loop-again c =
@@ -86,16 +80,21 @@ loop-again c =
     let laid = c .before .before .append-at in
     let xs = drop (a .i) (a .entries .now) in
     let small = small-drop (a .w) (a .i) (a .entries .now) (small-of (a .w) (a .entries .now) (s .pre .5)) in
-    let there : l .j * a .k + a .k ≤ length xs = rw length-drop (omega (arith, place-within (a .k) (l .j) (a .c) (omega arith))) in (
+    let there : l .j * a .k + a .k ≤ length xs = rw length-drop
+    (omega (arith, place-within (a .k) (l .j) (a .c) (omega arith))) in (
       omega arith,
       laid .kept .0 ∙ l .inv .1,
       laid .ensures
-          ∙ rw (l .inv .2, c .before .before .before .chunk .ensures, ← (drop-drop (l .j * a .k) (a .i) (a .entries .now)), ← (mul-assoc (l .j) (a .k) (a .w)), add-mul (l .j) 1 (a .k), one-mul)
+          ∙ rw (
+            l .inv .2,
+            c .before .before .before .chunk .ensures,
+            ← (drop-drop (l .j * a .k) (a .i) (a .entries .now)),
+            ← (mul-assoc (l .j) (a .k) (a .w)),
+            add-mul (l .j) 1 (a .k),
+            one-mul,
+          )
           (laid-more (a .part .now) xs (a .w) (l .j * a .k) (a .k) there small),
     )
-
-same-length : tie.Need-same-length Inv-loop μ-loop
-same-length c = search needs
 
 returns : tie.Need-returns Inv-loop μ-loop
 returns c =
@@ -106,18 +105,6 @@ pub pack-chunks-spec : {M : Type 1} → statement M
 pack-chunks-spec =
     tie.close
     (tie.spec
-    Inv-loop
-    μ-loop
-    mul-bits
-    loop-holds
-    mul-append-at
-    mul-chunk
-    add-chunk
-    chunk-requires
-    cast-append-at
-    append-at-requires
-    add-j
-    loop-less
-    loop-again
-    same-length
-    returns)
+    Inv-loop μ-loop (λ c. search needs) loop-holds mul-append-at mul-chunk add-chunk chunk-requires
+    (λ c. search needs) append-at-requires (λ c. search needs) (λ c. search needs) loop-again
+    (λ c. search needs) returns)

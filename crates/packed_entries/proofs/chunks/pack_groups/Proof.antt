@@ -1,4 +1,5 @@
--- `packed_entries::chunks::pack_groups` meets its contract: each turn lays a group's page behind those of the groups before it.
+-- `packed_entries::chunks::pack_groups` meets its contract: each turn lays a group's page behind those of the
+-- groups before it.
 use mathlib.Core.Path.{_≡_, ap, _∙_}
 use mathlib.Core.List.{[]}
 use Prim.Native.Nat.{ℕ, _+_, _-_, _*_, _≤_}
@@ -19,24 +20,20 @@ use Rattle.packed_entries.proofs.chunks.pack_groups.Tie as tie
 
 abbrev Inv-loop : tie.InvT-loop
 Inv-loop entries m w page₀ k g₀ at₀ page g at =
-    (g ≤ m) × (length page ≡ length page₀) × (at ≡ g * w) × (page ≡ put page₀ 0 (packed lowFirst w (take (8 * g) entries)))
+    (g ≤ m) × (length page ≡ length page₀) × (at ≡ g * w)
+    × (page ≡ put page₀ 0 (packed lowFirst w (take (8 * g) entries)))
 
 abbrev μ-loop : tie.MeasureT-loop
 μ-loop entries m w page₀ k g₀ at₀ page g at = m - g
 
-at-once-requires : tie.Need-at-once-requires Inv-loop μ-loop
-at-once-requires c κs = search needs
-
 loop-holds : tie.Need-loop-holds Inv-loop μ-loop
 loop-holds c =
-    let a = c .before .before .before .args in
-    (omega arith, omega arith, omega (arith, zero-mul (a .w)), rw (packed-none lowFirst (a .w) [] (zero-mul (a .w))) (put-none (a .page .now) 0))
-
-mul-pack-chunks : tie.Need-mul-pack-chunks Inv-loop μ-loop
-mul-pack-chunks c = search needs
-
-div-pack-chunks : tie.Need-div-pack-chunks Inv-loop μ-loop
-div-pack-chunks c = search needs
+    let a = c .before .before .before .args in (
+      omega arith,
+      omega arith,
+      omega (arith, zero-mul (a .w)),
+      rw (packed-none lowFirst (a .w) [] (zero-mul (a .w))) (put-none (a .page .now) 0),
+    )
 
 sub-pack-chunks : tie.Need-sub-pack-chunks Inv-loop μ-loop
 sub-pack-chunks c =
@@ -48,28 +45,26 @@ part-pack-chunks-start c =
     let a = c .before .before .before .before .before .args in
     omega (arith, place-within (a .w) (c .before .loop .g) (a .m) (omega arith))
 
-part-pack-chunks-end : tie.Need-part-pack-chunks-end Inv-loop μ-loop
-part-pack-chunks-end c = search needs
-
 pack-chunks-requires : tie.Need-pack-chunks-requires Inv-loop μ-loop
 pack-chunks-requires c κs =
     let s = c .before .before .before .before .before .before in
     let a = s .args in
     let l = c .before .before .loop in
     let k = c .before .before .before .at-once in
-    let group = place-within (a .w) (l .g) (a .m) (omega arith) in
-    (div-le-self 8 (k .result), k .ensures .0, s .pre .0, k .ensures .1, rw (k .ensures .2) (omega arith), s .pre .3, rw (k .ensures .2, part-rest, length-drop) (omega arith))
+    let group = place-within (a .w) (l .g) (a .m) (omega arith) in (
+      div-le-self 8 (k .result),
+      k .ensures .0,
+      s .pre .0,
+      k .ensures .1,
+      rw (k .ensures .2) (omega arith),
+      s .pre .3,
+      rw (k .ensures .2, part-rest, length-drop) (omega arith),
+    )
 
 add-at : tie.Need-add-at Inv-loop μ-loop
 add-at c =
     let a = c .before .before .before .before .before .before .before .before .before .args in
     omega (arith, place-within (a .w) (c .before .before .before .before .before .loop .g) (a .m) (omega arith))
-
-add-g : tie.Need-add-g Inv-loop μ-loop
-add-g c = search needs
-
-loop-less : tie.Need-loop-less Inv-loop μ-loop
-loop-less c = search needs
 
 loop-again : tie.Need-loop-again Inv-loop μ-loop
 loop-again c =
@@ -82,13 +77,11 @@ loop-again c =
       omega arith,
       omega arith,
       omega (arith, add-mul (l .g) 1 (a .w)),
-      laid-behind (a .page .now) (a .entries .now) (a .w) (l .g) 8 (l .at) (omega arith) (small-of (a .w) (a .entries .now) (s .pre .3)) (l .inv .2) (omega arith) (l .inv .3)
+      laid-behind (a .page .now) (a .entries .now) (a .w) (l .g) 8 (l .at) (omega arith)
+          (small-of (a .w) (a .entries .now) (s .pre .3)) (l .inv .2) (omega arith) (l .inv .3)
           (rw eight at (part-put (l .page) _ _ (l .at) (c .before .before .pack-chunks .ensures)))
           ∙ ap (λ (n : ℕ). put (a .page .now) 0 (packed lowFirst (a .w) (take n (a .entries .now)))) more,
     )
-
-same-length : tie.Need-same-length Inv-loop μ-loop
-same-length c = search needs
 
 returns : tie.Need-returns Inv-loop μ-loop
 returns c =
@@ -99,19 +92,6 @@ pub pack-groups-spec : {M : Type 1} → statement M
 pack-groups-spec =
     tie.close
     (tie.spec
-    Inv-loop
-    μ-loop
-    at-once-requires
-    loop-holds
-    mul-pack-chunks
-    div-pack-chunks
-    sub-pack-chunks
-    part-pack-chunks-start
-    part-pack-chunks-end
-    pack-chunks-requires
-    add-at
-    add-g
-    loop-less
-    loop-again
-    same-length
-    returns)
+    Inv-loop μ-loop (λ c κs. search needs) loop-holds (λ c. search needs) (λ c. search needs)
+    sub-pack-chunks part-pack-chunks-start (λ c. search needs) pack-chunks-requires add-at
+    (λ c. search needs) (λ c. search needs) loop-again (λ c. search needs) returns)

@@ -13,15 +13,19 @@ use Rattle.packed_entries.proofs.groups.unpack_eight.Tie as tie
 
 abbrev Inv-loop : tie.InvT-loop
 Inv-loop page at w entries₀ i j₀ entries j =
-    (j ≤ 8) × (length entries ≡ length entries₀) × (entries ≡ put entries₀ i (tabulate j (λ k. field lowFirst page (8 * at + k * w) w)))
+    (j ≤ 8) × (length entries ≡ length entries₀)
+    × (entries ≡ put entries₀ i (tabulate j (λ k. field lowFirst page (8 * at + k * w) w)))
 
 abbrev μ-loop : tie.MeasureT-loop
 μ-loop page at w entries₀ i j₀ entries j = 8 - j
 
 loop-holds : tie.Need-loop-holds Inv-loop μ-loop
 loop-holds c =
-    let a = c .before .before .args in
-    (omega arith, omega arith, tabulate-none (a .entries .now) (a .i) (λ k. field lowFirst (a .page .now) (8 * a .at + k * a .w) (a .w)))
+    let a = c .before .before .args in (
+      omega arith,
+      omega arith,
+      tabulate-none (a .entries .now) (a .i) (λ k. field lowFirst (a .page .now) (8 * a .at + k * a .w) (a .w)),
+    )
 
 mul-entry-in : tie.Need-mul-entry-in Inv-loop μ-loop
 mul-entry-in c =
@@ -35,21 +39,6 @@ entry-in-requires c κs =
     let l = c .before .loop in
     omega (arith, mul-le-mul-right {m = l .j} {n = 8} (a .w) (omega arith))
 
-add-entries : tie.Need-add-entries Inv-loop μ-loop
-add-entries c = search needs
-
-mul-entries : tie.Need-mul-entries Inv-loop μ-loop
-mul-entries c = search needs
-
-slice-write-entries : tie.Need-slice-write-entries Inv-loop μ-loop
-slice-write-entries c = search needs
-
-add-j : tie.Need-add-j Inv-loop μ-loop
-add-j c = search needs
-
-loop-less : tie.Need-loop-less Inv-loop μ-loop
-loop-less c = search needs
-
 loop-again : tie.Need-loop-again Inv-loop μ-loop
 loop-again c =
     let a = c .before .before .before .before .before .args in
@@ -60,29 +49,18 @@ loop-again c =
       rw (l .inv .2, c .entry-in .ensures) (put-tabulate-at (a .entries .now) (a .i) (l .j) f (omega arith)),
     )
 
-same-length : tie.Need-same-length Inv-loop μ-loop
-same-length c = search needs
-
 returns : tie.Need-returns Inv-loop μ-loop
 returns c =
     let a = c .before .before .before .before .args in
     let l = c .before .loop in
-    l .inv .2 ∙ ap (λ (n : ℕ). put (a .entries .now) (a .i) (tabulate n (λ k. field lowFirst (a .page .now) (8 * a .at + k * a .w) (a .w)))) (omega arith)
+    l .inv .2
+    ∙ ap
+    (λ (n : ℕ). put (a .entries .now) (a .i)
+    (tabulate n (λ k. field lowFirst (a .page .now) (8 * a .at + k * a .w) (a .w)))) (omega arith)
 
 pub unpack-eight-spec : {M : Type 1} → statement M
 unpack-eight-spec =
     tie.close
     (tie.spec
-    Inv-loop
-    μ-loop
-    loop-holds
-    mul-entry-in
-    entry-in-requires
-    add-entries
-    mul-entries
-    slice-write-entries
-    add-j
-    loop-less
-    loop-again
-    same-length
-    returns)
+    Inv-loop μ-loop loop-holds mul-entry-in entry-in-requires (λ c. search needs) (λ c. search needs)
+    (λ c. search needs) (λ c. search needs) (λ c. search needs) loop-again (λ c. search needs) returns)

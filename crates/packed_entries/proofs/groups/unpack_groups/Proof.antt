@@ -14,18 +14,20 @@ use Rattle.packed_entries.proofs.groups.unpack_groups.Tie as tie
 
 abbrev Inv-loop : tie.InvT-loop
 Inv-loop page m w entries₀ g₀ at₀ entries g at =
-    (g ≤ m) × (length entries ≡ length entries₀) × (at ≡ g * w) × (entries ≡ put entries₀ 0 (tabulate (8 * g) (entry lowFirst page w)))
+    (g ≤ m) × (length entries ≡ length entries₀) × (at ≡ g * w)
+    × (entries ≡ put entries₀ 0 (tabulate (8 * g) (entry lowFirst page w)))
 
 abbrev μ-loop : tie.MeasureT-loop
 μ-loop page m w entries₀ g₀ at₀ entries g at = m - g
 
 loop-holds : tie.Need-loop-holds Inv-loop μ-loop
 loop-holds c =
-    let a = c .before .before .args in
-    (omega arith, omega arith, omega (arith, zero-mul (a .w)), tabulate-none (a .entries .now) 0 (entry lowFirst (a .page .now) (a .w)))
-
-mul-unpack-eight : tie.Need-mul-unpack-eight Inv-loop μ-loop
-mul-unpack-eight c = omega arith
+    let a = c .before .before .args in (
+      omega arith,
+      omega arith,
+      omega (arith, zero-mul (a .w)),
+      tabulate-none (a .entries .now) 0 (entry lowFirst (a .page .now) (a .w)),
+    )
 
 unpack-eight-requires : tie.Need-unpack-eight-requires Inv-loop μ-loop
 unpack-eight-requires c κs =
@@ -37,12 +39,6 @@ add-at c =
     let a = c .before .before .before .before .before .before .before .before .args in
     omega (arith, place-within (a .w) (c .before .before .before .before .before .loop .g) (a .m) (omega arith))
 
-add-g : tie.Need-add-g Inv-loop μ-loop
-add-g c = omega arith
-
-loop-less : tie.Need-loop-less Inv-loop μ-loop
-loop-less c = omega arith
-
 loop-again : tie.Need-loop-again Inv-loop μ-loop
 loop-again c =
     let a = c .before .before .before .before .before .before .before .before .args in
@@ -50,11 +46,9 @@ loop-again c =
       omega arith,
       omega arith,
       omega (arith, add-mul (l .g) 1 (a .w)),
-      next-group (a .entries .now) (a .page .now) (a .w) (l .g) (l .at) (omega arith) (l .inv .2) (l .inv .3) (c .before .before .unpack-eight .ensures),
+      next-group (a .entries .now) (a .page .now) (a .w) (l .g) (l .at) (omega arith) (l .inv .2) (l .inv .3)
+          (c .before .before .unpack-eight .ensures),
     )
-
-same-length : tie.Need-same-length Inv-loop μ-loop
-same-length c = omega arith
 
 returns : tie.Need-returns Inv-loop μ-loop
 returns c =
@@ -65,14 +59,5 @@ pub unpack-groups-spec : {M : Type 1} → statement M
 unpack-groups-spec =
     tie.close
     (tie.spec
-    Inv-loop
-    μ-loop
-    loop-holds
-    mul-unpack-eight
-    unpack-eight-requires
-    add-at
-    add-g
-    loop-less
-    loop-again
-    same-length
-    returns)
+    Inv-loop μ-loop loop-holds (λ c. omega arith) unpack-eight-requires add-at (λ c. omega arith)
+    (λ c. omega arith) loop-again (λ c. omega arith) returns)

@@ -5,19 +5,11 @@ use borrow.Author.Needs.{needs}
 use Rattle.packed_entries.proofs.judging.any_large.Statement.{statement}
 use Rattle.packed_entries.proofs.judging.any_large.Tie as tie
 
-shl-result : tie.Need-shl-result
-shl-result c = search needs
-
-bits-together-requires : tie.Need-bits-together-requires
-bits-together-requires c κs = search needs
-
-cast-result : tie.Need-cast-result
-cast-result c = search needs
-
 returns : tie.Need-returns
 returns c =
     let w = c .before .before .args .w in
     rw (one-shl 64 w (omega arith)) (c .bits-together .ensures w)
 
 pub any-large-spec : {M : Type 1} → statement M
-any-large-spec = tie.close (tie.spec shl-result bits-together-requires cast-result returns)
+any-large-spec =
+    tie.close (tie.spec (λ c. search needs) (λ c κs. search needs) (λ c. search needs) returns)

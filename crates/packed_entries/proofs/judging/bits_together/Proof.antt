@@ -1,4 +1,5 @@
--- `packed_entries::judging::bits_together` meets its contract: the bits of the entries passed reach a power of 2 where one of these entries does.
+-- `packed_entries::judging::bits_together` meets its contract: the bits of the entries passed reach a power of 2
+-- where one of these entries does.
 use mathlib.Core.Path.{_≡_, ap, _∙_}
 use Prim.Native.Nat.{ℕ, _-_, _^_, _≤_, _<_}
 use native.Mathlib.Omega.{arith}
@@ -13,25 +14,14 @@ use Rattle.packed_entries.proofs.judging.bits_together.Statement.{state
 use Rattle.packed_entries.proofs.judging.bits_together.Tie as tie
 
 abbrev Inv-loop : tie.InvT-loop
-Inv-loop entries all₀ i₀ all i = (i ≤ length entries) × (all < 2 ^ 32) × ((w : ℕ) → leb (2 ^ w) all ≡ anyLarge w (take i entries))
+Inv-loop entries all₀ i₀ all i =
+    (i ≤ length entries) × (all < 2 ^ 32) × ((w : ℕ) → leb (2 ^ w) all ≡ anyLarge w (take i entries))
 
 abbrev μ-loop : tie.MeasureT-loop
 μ-loop entries all₀ i₀ all i = length entries - i
 
 loop-holds : tie.Need-loop-holds Inv-loop μ-loop
 loop-holds c = (omega arith, omega arith, λ w. large-none w)
-
-mul-all : tie.Need-mul-all Inv-loop μ-loop
-mul-all c = search needs
-
-shared-slice-read-all : tie.Need-shared-slice-read-all Inv-loop μ-loop
-shared-slice-read-all c = search needs
-
-add-i : tie.Need-add-i Inv-loop μ-loop
-add-i c = search needs
-
-loop-less : tie.Need-loop-less Inv-loop μ-loop
-loop-less c = search needs
 
 loop-again : tie.Need-loop-again Inv-loop μ-loop
 loop-again c =
@@ -52,12 +42,5 @@ pub bits-together-spec : {M : Type 1} → statement M
 bits-together-spec =
     tie.close
     (tie.spec
-    Inv-loop
-    μ-loop
-    loop-holds
-    mul-all
-    shared-slice-read-all
-    add-i
-    loop-less
-    loop-again
-    returns)
+    Inv-loop μ-loop loop-holds (λ c. search needs) (λ c. search needs) (λ c. search needs)
+    (λ c. search needs) loop-again returns)

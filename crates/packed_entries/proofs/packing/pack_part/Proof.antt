@@ -1,4 +1,5 @@
--- `packed_entries::packing::pack_part` meets its contract: the part of the entries from p on goes into the part of the page from `from` on.
+-- `packed_entries::packing::pack_part` meets its contract: the part of the entries from p on goes into the part of
+-- the page from `from` on.
 use mathlib.Core.Path.{_≡_, ap, _∙_}
 use Prim.Native.Nat.{ℕ, _+_, _-_}
 use native.Mathlib.Omega.{arith}
@@ -12,59 +13,32 @@ use Rattle.words.specs.Puts.{part-put, part-rest}
 use Rattle.packed_entries.proofs.packing.pack_part.Statement.{statement}
 use Rattle.packed_entries.proofs.packing.pack_part.Tie as tie
 
-add-end : tie.Need-add-end
-add-end c = search needs
-
-mul-pack : tie.Need-mul-pack
-mul-pack c = search needs
-
-sub-pack : tie.Need-sub-pack
-sub-pack c = search needs
-
-part-pack-start : tie.Need-part-pack-start
-part-pack-start c = search needs
-
-part-pack-end : tie.Need-part-pack-end
-part-pack-end c = search needs
-
-sub-pack-2 : tie.Need-sub-pack-2
-sub-pack-2 c = search needs
-
-part-pack-start-2 : tie.Need-part-pack-start-2
-part-pack-start-2 c = search needs
-
-part-pack-end-2 : tie.Need-part-pack-end-2
-part-pack-end-2 c = search needs
-
 pack-requires : tie.Need-pack-requires
 pack-requires c κs =
     let a = c .before .before .before .before .args in
     let s = a .entries .now in
     let m : a .p + a .m - a .p ≡ a .m = omega arith in
-    let size : length (take (a .m) (drop (a .p) s)) ≡ a .m = length-take-le (a .m) (drop (a .p) s) (rw length-drop (omega arith)) in
-    rw m (omega arith, omega arith, c .before .before .before .before .pre .3, rw (size, part-rest, length-drop) (omega arith))
-
-same-length : tie.Need-same-length
-same-length c = search needs
+    let size : length (take (a .m) (drop (a .p) s)) ≡ a .m =
+    length-take-le (a .m) (drop (a .p) s) (rw length-drop (omega arith)) in
+    rw m (
+      omega arith,
+      omega arith,
+      c .before .before .before .before .pre .3,
+      rw (size, part-rest, length-drop) (omega arith),
+    )
 
 returns : tie.Need-returns
 returns c =
     let a = c .before .before .before .before .before .before .before .args in
     let m : a .p + a .m - a .p ≡ a .m = omega arith in
-    part-put (a .page .now) _ _ (a .from) (c .before .before .pack .ensures) ∙ ap (λ (k : ℕ). put (a .page .now) (a .from) (packed lowFirst (a .w) (take k (drop (a .p) (a .entries .now))))) m
+    part-put (a .page .now) _ _ (a .from) (c .before .before .pack .ensures)
+    ∙ ap
+    (λ (k : ℕ). put (a .page .now) (a .from) (packed lowFirst (a .w) (take k (drop (a .p) (a .entries .now)))))
+    m
 
 pub pack-part-spec : {M : Type 1} → statement M
 pack-part-spec =
     tie.close
     (tie.spec
-    add-end
-    mul-pack
-    sub-pack
-    part-pack-start
-    part-pack-end
-    sub-pack-2
-    part-pack-start-2
-    part-pack-end-2
-    pack-requires
-    same-length
-    returns)
+    (λ c. search needs) (λ c. search needs) (λ c. search needs) (λ c. search needs) (λ c. search needs)
+    (λ c. search needs) (λ c. search needs) (λ c. search needs) pack-requires (λ c. search needs) returns)

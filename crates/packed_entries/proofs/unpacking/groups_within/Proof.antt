@@ -16,12 +16,6 @@ add-if1 c =
     let a = c .args in
     omega (arith, mul-le-mul {n₁ = a .q} {m₁ = a .w} {n₂ = 2048} {m₂ = 32} (omega arith) (omega arith))
 
-returns : tie.Need-returns
-returns c = search needs
-
-sub-result : tie.Need-sub-result
-sub-result c = search needs
-
 div-result : tie.Need-div-result
 div-result c =
     let a = c .before .args in
@@ -33,4 +27,5 @@ returns-2 c =
     omega (arith, fewer-groups (a .len) (a .w) (a .q) (omega arith) (omega arith))
 
 pub groups-within-spec : {M : Type 1} → statement M
-groups-within-spec = tie.close (tie.spec mul-if1 add-if1 returns sub-result div-result returns-2)
+groups-within-spec =
+    tie.close (tie.spec mul-if1 add-if1 (λ c. search needs) (λ c. search needs) div-result returns-2)

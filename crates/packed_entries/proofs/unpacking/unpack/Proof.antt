@@ -13,19 +13,20 @@ use Rattle.packed_entries.proofs.unpacking.unpack.Statement.{statement}
 use Rattle.packed_entries.proofs.unpacking.unpack.Tie as tie
 
 abbrev Inv-loop : tie.InvT-loop
-Inv-loop page w n entries₀ i₀ entries i = (i ≤ n) × (length entries ≡ length entries₀) × (entries ≡ put entries₀ 0 (tabulate i (entry lowFirst page w)))
+Inv-loop page w n entries₀ i₀ entries i =
+    (i ≤ n) × (length entries ≡ length entries₀) × (entries ≡ put entries₀ 0 (tabulate i (entry lowFirst page w)))
 
 abbrev μ-loop : tie.MeasureT-loop
 μ-loop page w n entries₀ i₀ entries i = n - i
 
-unpack-front-requires : tie.Need-unpack-front-requires Inv-loop μ-loop
-unpack-front-requires c κs = search needs
-
 loop-holds : tie.Need-loop-holds Inv-loop μ-loop
 loop-holds c =
     let a = c .before .before .before .before .before .before .args in
-    let front = c .before .before .unpack-front in
-    (omega arith, omega arith, in-place (a .entries .now) (front .result) (entry lowFirst (a .page .now) (a .w)) (front .ensures .1))
+    let front = c .before .before .unpack-front in (
+      omega arith,
+      omega arith,
+      in-place (a .entries .now) (front .result) (entry lowFirst (a .page .now) (a .w)) (front .ensures .1),
+    )
 
 mul-entry-any : tie.Need-mul-entry-any Inv-loop μ-loop
 mul-entry-any c =
@@ -33,32 +34,15 @@ mul-entry-any c =
     let l = c .before .loop in
     omega (arith, mul-le-mul {n₁ = l .i} {m₁ = a .w} {n₂ = 16384} {m₂ = 32} (omega arith) (omega arith))
 
-entry-any-requires : tie.Need-entry-any-requires Inv-loop μ-loop
-entry-any-requires c κs = search needs
-
-mul-entries : tie.Need-mul-entries Inv-loop μ-loop
-mul-entries c = search needs
-
-slice-write-entries : tie.Need-slice-write-entries Inv-loop μ-loop
-slice-write-entries c = search needs
-
-add-i : tie.Need-add-i Inv-loop μ-loop
-add-i c = search needs
-
-loop-less : tie.Need-loop-less Inv-loop μ-loop
-loop-less c = search needs
-
 loop-again : tie.Need-loop-again Inv-loop μ-loop
 loop-again c =
     let a = c .before .before .before .before .before .before .before .before .before .args in
     let l = c .before .before .loop in (
       omega arith,
       simp length-set (l .inv .1),
-      rw (l .inv .2, c .entry-any .ensures) (put-tabulate _ (l .i) (entry lowFirst (a .page .now) (a .w)) (omega arith)),
+      rw (l .inv .2, c .entry-any .ensures)
+          (put-tabulate _ (l .i) (entry lowFirst (a .page .now) (a .w)) (omega arith)),
     )
-
-same-length : tie.Need-same-length Inv-loop μ-loop
-same-length c = search needs
 
 returns : tie.Need-returns Inv-loop μ-loop
 returns c =
@@ -66,22 +50,13 @@ returns c =
     let front = c .before .before .before .before .unpack-front in
     let l = c .before .loop in
     let all : l .i ≡ a .n = omega arith in
-    further-in-place (a .entries .now) (front .result) (a .n) (entry lowFirst (a .page .now) (a .w)) (omega arith) (front .ensures .1) (rw (← all) (l .inv .2))
+    further-in-place (a .entries .now) (front .result) (a .n) (entry lowFirst (a .page .now) (a .w)) (omega arith)
+    (front .ensures .1) (rw (← all) (l .inv .2))
 
 pub unpack-spec : {M : Type 1} → statement M
 unpack-spec =
     tie.close
     (tie.spec
-    Inv-loop
-    μ-loop
-    unpack-front-requires
-    loop-holds
-    mul-entry-any
-    entry-any-requires
-    mul-entries
-    slice-write-entries
-    add-i
-    loop-less
-    loop-again
-    same-length
-    returns)
+    Inv-loop μ-loop (λ c κs. search needs) loop-holds mul-entry-any (λ c κs. search needs)
+    (λ c. search needs) (λ c. search needs) (λ c. search needs) (λ c. search needs) loop-again
+    (λ c. search needs) returns)

@@ -9,125 +9,23 @@ use Rattle.packed_kernels.specs.GroupByGroup.{group-flags}
 use Rattle.packed_kernels.proofs.each.eight.Statement.{statement}
 use Rattle.packed_kernels.proofs.each.eight.Tie as tie
 
-entry-bit-requires : tie.Need-entry-bit-requires
-entry-bit-requires c κs = search needs
-
-entry-bit-requires-2 : tie.Need-entry-bit-requires-2
-entry-bit-requires-2 c κs = search needs
-
-mul-result : tie.Need-mul-result
-mul-result c = search needs
-
-add-result : tie.Need-add-result
-add-result c = search needs
-
-mul-entry-bit : tie.Need-mul-entry-bit
-mul-entry-bit c = search needs
-
-entry-bit-requires-3 : tie.Need-entry-bit-requires-3
-entry-bit-requires-3 c κs = search needs
-
-mul-result-2 : tie.Need-mul-result-2
-mul-result-2 c = search needs
-
-add-result-2 : tie.Need-add-result-2
-add-result-2 c = search needs
-
-mul-entry-bit-2 : tie.Need-mul-entry-bit-2
-mul-entry-bit-2 c = search needs
-
-entry-bit-requires-4 : tie.Need-entry-bit-requires-4
-entry-bit-requires-4 c κs = search needs
-
-mul-result-3 : tie.Need-mul-result-3
-mul-result-3 c = search needs
-
-add-result-3 : tie.Need-add-result-3
-add-result-3 c = search needs
-
-mul-entry-bit-3 : tie.Need-mul-entry-bit-3
-mul-entry-bit-3 c = search needs
-
-entry-bit-requires-5 : tie.Need-entry-bit-requires-5
-entry-bit-requires-5 c κs = search needs
-
-mul-result-4 : tie.Need-mul-result-4
-mul-result-4 c = search needs
-
-add-result-4 : tie.Need-add-result-4
-add-result-4 c = search needs
-
-mul-entry-bit-4 : tie.Need-mul-entry-bit-4
-mul-entry-bit-4 c = search needs
-
-entry-bit-requires-6 : tie.Need-entry-bit-requires-6
-entry-bit-requires-6 c κs = search needs
-
-mul-result-5 : tie.Need-mul-result-5
-mul-result-5 c = search needs
-
-add-result-5 : tie.Need-add-result-5
-add-result-5 c = search needs
-
-mul-entry-bit-5 : tie.Need-mul-entry-bit-5
-mul-entry-bit-5 c = search needs
-
-entry-bit-requires-7 : tie.Need-entry-bit-requires-7
-entry-bit-requires-7 c κs = search needs
-
-mul-result-6 : tie.Need-mul-result-6
-mul-result-6 c = search needs
-
-add-result-6 : tie.Need-add-result-6
-add-result-6 c = search needs
-
-mul-entry-bit-6 : tie.Need-mul-entry-bit-6
-mul-entry-bit-6 c = search needs
-
-entry-bit-requires-8 : tie.Need-entry-bit-requires-8
-entry-bit-requires-8 c κs = search needs
-
-mul-result-7 : tie.Need-mul-result-7
-mul-result-7 c = search needs
-
-add-result-7 : tie.Need-add-result-7
-add-result-7 c = search needs
-
 returns : tie.Need-returns
 returns c =
     let a = c .before .before .before .before .before .before .before .before .before .args in
-    omega (arith, group-flags (λ b. inside (a .low) (a .low + a .span) (field lowFirst (a .page .now) (8 * a .at + b) (a .w))) (a .w))
+    omega (
+      arith,
+      group-flags (λ b. inside (a .low) (a .low + a .span) (field lowFirst (a .page .now) (8 * a .at + b) (a .w)))
+          (a .w),
+    )
 
 pub eight-spec : {M : Type 1} → statement M
 eight-spec =
     tie.close
     (tie.spec
-    entry-bit-requires
-    entry-bit-requires-2
-    mul-result
-    add-result
-    mul-entry-bit
-    entry-bit-requires-3
-    mul-result-2
-    add-result-2
-    mul-entry-bit-2
-    entry-bit-requires-4
-    mul-result-3
-    add-result-3
-    mul-entry-bit-3
-    entry-bit-requires-5
-    mul-result-4
-    add-result-4
-    mul-entry-bit-4
-    entry-bit-requires-6
-    mul-result-5
-    add-result-5
-    mul-entry-bit-5
-    entry-bit-requires-7
-    mul-result-6
-    add-result-6
-    mul-entry-bit-6
-    entry-bit-requires-8
-    mul-result-7
-    add-result-7
-    returns)
+    (λ c κs. search needs) (λ c κs. search needs) (λ c. search needs) (λ c. search needs)
+    (λ c. search needs) (λ c κs. search needs) (λ c. search needs) (λ c. search needs) (λ c. search needs)
+    (λ c κs. search needs) (λ c. search needs) (λ c. search needs) (λ c. search needs)
+    (λ c κs. search needs) (λ c. search needs) (λ c. search needs) (λ c. search needs)
+    (λ c κs. search needs) (λ c. search needs) (λ c. search needs) (λ c. search needs)
+    (λ c κs. search needs) (λ c. search needs) (λ c. search needs) (λ c. search needs)
+    (λ c κs. search needs) (λ c. search needs) (λ c. search needs) returns)

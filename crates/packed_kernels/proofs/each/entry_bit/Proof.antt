@@ -7,16 +7,13 @@ use Rattle.compare.specs.Range.{inside}
 use Rattle.packed_kernels.proofs.each.entry_bit.Statement.{statement}
 use Rattle.packed_kernels.proofs.each.entry_bit.Tie as tie
 
-entry-in-requires : tie.Need-entry-in-requires
-entry-in-requires c κs = search needs
-
-inside-bit-requires : tie.Need-inside-bit-requires
-inside-bit-requires c κs = search needs
-
 returns : tie.Need-returns
 returns c =
-    let a = c .before .before .before .args in
-    (c .inside-bit .ensures .0 ∙ ap (λ (x : ℕ). flag (inside (a .low) (a .low + a .span) x)) (c .before .entry-in .ensures), c .inside-bit .ensures .1)
+    let a = c .before .before .before .args in (
+      c .inside-bit .ensures .0
+          ∙ ap (λ (x : ℕ). flag (inside (a .low) (a .low + a .span) x)) (c .before .entry-in .ensures),
+      c .inside-bit .ensures .1,
+    )
 
 pub entry-bit-spec : {M : Type 1} → statement M
-entry-bit-spec = tie.close (tie.spec entry-in-requires inside-bit-requires returns)
+entry-bit-spec = tie.close (tie.spec (λ c κs. search needs) (λ c κs. search needs) returns)

@@ -1,4 +1,5 @@
--- `packed_kernels::each::inside_bit` meets its contract: a difference that wraps is at most span just inside the range.
+-- `packed_kernels::each::inside_bit` meets its contract: a difference that wraps is at most span just inside the
+-- range.
 use mathlib.Core.Path.{_≡_, ap, _∙_}
 use Prim.Native.Nat.{_+_}
 use native.Mathlib.Omega.{arith}
@@ -11,18 +12,14 @@ use Rattle.compare.specs.Inside.{by-difference}
 use Rattle.packed_kernels.proofs.each.inside_bit.Statement.{statement}
 use Rattle.packed_kernels.proofs.each.inside_bit.Tie as tie
 
-wrapping-sub-u32-requires : tie.Need-wrapping-sub-u32-requires
-wrapping-sub-u32-requires c κs = search needs
-
-cast-result : tie.Need-cast-result
-cast-result c = search needs
-
 returns : tie.Need-returns
 returns c =
     let a = c .before .args in
     let d = c .wrapping-sub-u32 .result in
-    let t : leb d (a .span) ≡ inside (a .low) (a .low + a .span) (a .x) = by-difference (a .low) (a .span) (a .x) d (omega arith) (omega arith) (omega arith) (c .wrapping-sub-u32 .ensures) in
+    let t : leb d (a .span) ≡ inside (a .low) (a .low + a .span) (a .x) =
+    by-difference (a .low) (a .span) (a .x) d (omega arith) (omega arith) (omega arith)
+    (c .wrapping-sub-u32 .ensures) in
     (byte-flag (leb d (a .span)) ∙ ap flag t, omega (arith, byte-flag (leb d (a .span)), flag-lt (leb d (a .span))))
 
 pub inside-bit-spec : {M : Type 1} → statement M
-inside-bit-spec = tie.close (tie.spec wrapping-sub-u32-requires cast-result returns)
+inside-bit-spec = tie.close (tie.spec (λ c κs. search needs) (λ c. search needs) returns)

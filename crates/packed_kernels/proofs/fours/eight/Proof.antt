@@ -9,39 +9,6 @@ use Rattle.packed_kernels.specs.Windows.{window-tests, two-fours}
 use Rattle.packed_kernels.proofs.fours.eight.Statement.{statement}
 use Rattle.packed_kernels.proofs.fours.eight.Tie as tie
 
-add-high : tie.Need-add-high
-add-high c = search needs
-
-load8-requires : tie.Need-load8-requires
-load8-requires c κs = search needs
-
-add-load8 : tie.Need-add-load8
-add-load8 c = search needs
-
-load8-requires-2 : tie.Need-load8-requires-2
-load8-requires-2 c κs = search needs
-
-mul-y : tie.Need-mul-y
-mul-y c = search needs
-
-shr-y : tie.Need-shr-y
-shr-y c = search needs
-
-four-in-requires : tie.Need-four-in-requires
-four-in-requires c κs = search needs
-
-four-in-requires-2 : tie.Need-four-in-requires-2
-four-in-requires-2 c κs = search needs
-
-mul-result : tie.Need-mul-result
-mul-result c = search needs
-
-add-result : tie.Need-add-result
-add-result c = search needs
-
-cast-result : tie.Need-cast-result
-cast-result c = search needs
-
 returns : tie.Need-returns
 returns c =
     let s = c .before .before .before .before in
@@ -51,24 +18,18 @@ returns c =
     let all : Small 8 page = λ k. s .shared-slice-known .given k .fits in
     ap₂ (λ (p q : ℕ). p + q * 16)
     (c .before .four-in .ensures .0
-    ∙ window-tests page 4 (a .at) 0 (a .w) (a .low) (a .low + a .span) (c .before .before .before .load8 .result) all (omega arith) (c .before .before .before .load8 .ensures ∙ sym (div-one _)) (omega arith))
+    ∙ window-tests page 4 (a .at) 0 (a .w) (a .low) (a .low + a .span) (c .before .before .before .load8 .result)
+    all (omega arith) (c .before .before .before .load8 .ensures ∙ sym (div-one _)) (omega arith))
     (c .four-in2 .ensures .0
-    ∙ window-tests page 4 (a .at + a .w / 2) o (a .w) (a .low) (a .low + a .span) (c .before .before .load82 .result / 2 ^ o) all (omega arith) (ap (λ (x : ℕ). x / 2 ^ o) (c .before .before .load82 .ensures)) (omega arith))
+    ∙ window-tests page 4 (a .at + a .w / 2) o (a .w) (a .low) (a .low + a .span)
+    (c .before .before .load82 .result / 2 ^ o) all (omega arith)
+    (ap (λ (x : ℕ). x / 2 ^ o) (c .before .before .load82 .ensures)) (omega arith))
     ∙ two-fours page (8 * a .at) (a .w) (a .low) (a .low + a .span)
 
 pub eight-spec : {M : Type 1} → statement M
 eight-spec =
     tie.close
     (tie.spec
-    add-high
-    load8-requires
-    add-load8
-    load8-requires-2
-    mul-y
-    shr-y
-    four-in-requires
-    four-in-requires-2
-    mul-result
-    add-result
-    cast-result
-    returns)
+    (λ c. search needs) (λ c κs. search needs) (λ c. search needs) (λ c κs. search needs)
+    (λ c. search needs) (λ c. search needs) (λ c κs. search needs) (λ c κs. search needs)
+    (λ c. search needs) (λ c. search needs) (λ c. search needs) returns)

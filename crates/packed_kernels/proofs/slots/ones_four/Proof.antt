@@ -8,19 +8,11 @@ use Rattle.packed_kernels.specs.Slots.{ones-four, ones-fit}
 use Rattle.packed_kernels.proofs.slots.ones_four.Statement.{statement}
 use Rattle.packed_kernels.proofs.slots.ones_four.Tie as tie
 
-ones-two-requires : tie.Need-ones-two-requires
-ones-two-requires c κs = search needs
-
-mul-ones-two : tie.Need-mul-ones-two
-mul-ones-two c = search needs
-
-ones-two-requires-2 : tie.Need-ones-two-requires-2
-ones-two-requires-2 c κs = search needs
-
 mul-result : tie.Need-mul-result
 mul-result c =
     let d = c .before .before .args .d in
-    let e : c .before .ones-two .result * c .ones-two2 .result ≡ slots 4 d (λ i. 1) = ap₂ (λ (x y : ℕ). x * y) (c .before .ones-two .ensures) (c .ones-two2 .ensures) ∙ ones-four d in
+    let e : c .before .ones-two .result * c .ones-two2 .result ≡ slots 4 d (λ i. 1) =
+    ap₂ (λ (x y : ℕ). x * y) (c .before .ones-two .ensures) (c .ones-two2 .ensures) ∙ ones-four d in
     record { fits = rw e (ones-fit d (omega arith)) }
 
 returns : tie.Need-returns
@@ -29,4 +21,7 @@ returns c =
     ap₂ (λ (x y : ℕ). x * y) (c .before .ones-two .ensures) (c .ones-two2 .ensures) ∙ ones-four d
 
 pub ones-four-spec : {M : Type 1} → statement M
-ones-four-spec = tie.close (tie.spec ones-two-requires mul-ones-two ones-two-requires-2 mul-result returns)
+ones-four-spec =
+    tie.close
+    (tie.spec
+    (λ c κs. search needs) (λ c. search needs) (λ c κs. search needs) mul-result returns)

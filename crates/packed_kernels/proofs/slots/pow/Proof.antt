@@ -5,12 +5,8 @@ use Rattle.words.specs.Bits.{one-shl}
 use Rattle.packed_kernels.proofs.slots.pow.Statement.{statement}
 use Rattle.packed_kernels.proofs.slots.pow.Tie as tie
 
-shl-result : tie.Need-shl-result
-shl-result c = search needs
-
 returns : tie.Need-returns
-returns c =
-    one-shl 64 (c .args .w) (omega arith)
+returns c = one-shl 64 (c .args .w) (omega arith)
 
 pub pow-spec : {M : Type 1} → statement M
-pow-spec = tie.close (tie.spec shl-result returns)
+pow-spec = tie.close (tie.spec (λ c. search needs) returns)

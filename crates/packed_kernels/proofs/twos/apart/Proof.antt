@@ -8,17 +8,8 @@ use Rattle.packed_kernels.specs.SlotTests.{apart}
 use Rattle.packed_kernels.proofs.twos.apart.Statement.{statement}
 use Rattle.packed_kernels.proofs.twos.apart.Tie as tie
 
-mul-pow : tie.Need-mul-pow
-mul-pow c = search needs
-
-pow-requires : tie.Need-pow-requires
-pow-requires c κs = search needs
-
 rem-y : tie.Need-rem-y
 rem-y c = omega (arith, c .pow .ensures, pow-pos (2 * c .before .args .w))
-
-pow-requires-2 : tie.Need-pow-requires-2
-pow-requires-2 c κs = search needs
 
 rem-result : tie.Need-rem-result
 rem-result c = omega (arith, c .pow2 .ensures, pow-pos (c .before .before .args .w))
@@ -37,9 +28,12 @@ add-result : tie.Need-add-result
 add-result c = omega (arith, narrow c)
 
 returns : tie.Need-returns
-returns c = rw (c .before .pow .ensures, c .pow2 .ensures) (apart (c .before .before .args .w) (c .before .before .args .x))
+returns c =
+    rw (c .before .pow .ensures, c .pow2 .ensures) (apart (c .before .before .args .w) (c .before .before .args .x))
 
 pub apart-spec : {M : Type 1} → statement M
 apart-spec =
     tie.close
-    (tie.spec mul-pow pow-requires rem-y pow-requires-2 rem-result sub-result add-result returns)
+    (tie.spec
+    (λ c. search needs) (λ c κs. search needs) rem-y (λ c κs. search needs) rem-result sub-result add-result
+    returns)

@@ -14,33 +14,23 @@ use Rattle.packed_kernels.specs.Folded.{two-le}
 use Rattle.packed_kernels.proofs.twos.two.Statement.{statement}
 use Rattle.packed_kernels.proofs.twos.two.Tie as tie
 
-add-load8 : tie.Need-add-load8
-add-load8 c = search needs
-
-load8-requires : tie.Need-load8-requires
-load8-requires c κs = search needs
-
-shr-x : tie.Need-shr-x
-shr-x c = search needs
-
-add-d : tie.Need-add-d
-add-d c = search needs
-
-apart-requires : tie.Need-apart-requires
-apart-requires c κs = search needs
-
-ones-two-requires : tie.Need-ones-two-requires
-ones-two-requires c κs = search needs
-
 slot-tests-requires : tie.Need-slot-tests-requires
 slot-tests-requires c κs =
     let l = c .before .before in
     let a = l .before .before .args in
-    let x = l .load8 .result / 2 ^ (a .b % 8) in
-    (omega arith, omega arith, omega arith, c .ones-two .ensures, holds-all 2 (a .w + 1) (a .w) (held (a .w) (a .w) x) _ (omega arith) (λ i m. held-lt (a .w) (a .w) x i) (c .before .apart .ensures))
+    let x = l .load8 .result / 2 ^ (a .b % 8) in (
+      omega arith,
+      omega arith,
+      omega arith,
+      c .ones-two .ensures,
+      holds-all 2 (a .w + 1) (a .w) (held (a .w) (a .w) x) _ (omega arith) (λ i m. held-lt (a .w) (a .w) x i)
+          (c .before .apart .ensures),
+    )
 
 told : (c : tie.After-slot-tests) → let a = c .before .before .before .before .before .args in
-    c .slot-tests .result ≡ slots 2 (a .w + 1) (λ i. flag (inside (a .low) (a .high) (field lowFirst (a .page .now) (8 * a .at + a .b + i * a .w) (a .w))))
+    c .slot-tests .result
+    ≡ slots 2 (a .w + 1)
+    (λ i. flag (inside (a .low) (a .high) (field lowFirst (a .page .now) (8 * a .at + a .b + i * a .w) (a .w))))
 told c =
     let l = c .before .before .before in
     let s = l .before in
@@ -49,24 +39,24 @@ told c =
     let x = l .load8 .result / 2 ^ o in
     let all : Small 8 (a .page .now) = λ k. s .shared-slice-known .given k .fits in
     c .slot-tests .ensures
-    ∙ tests-all 2 (a .w + 1) (a .w) (held (a .w) (a .w) x) _ (omega arith) (λ i m. held-lt (a .w) (a .w) x i) (c .before .before .apart .ensures) (a .low) (a .high)
+    ∙ tests-all 2 (a .w + 1) (a .w) (held (a .w) (a .w) x) _ (omega arith) (λ i m. held-lt (a .w) (a .w) x i)
+    (c .before .before .apart .ensures) (a .low) (a .high)
     ∙ slots-ext 2 (a .w + 1) (λ i m. ap (λ (v : ℕ). flag (inside (a .low) (a .high) v))
-    (window-entry (a .page .now) 2 (a .at + a .b / 8) o (a .w) x all (omega arith) (ap (λ (v : ℕ). v / 2 ^ o) (l .load8 .ensures)) (omega arith) i m))
+    (window-entry (a .page .now) 2 (a .at + a .b / 8) o (a .w) x all (omega arith)
+    (ap (λ (v : ℕ). v / 2 ^ o) (l .load8 .ensures)) (omega arith) i m))
 
 returns : tie.Need-returns
 returns c =
-    let a = c .before .before .before .before .before .args in
-    (told c, two-le (a .w + 1) (λ i. inside (a .low) (a .high) (field lowFirst (a .page .now) (8 * a .at + a .b + i * a .w) (a .w))) _ (omega arith) (told c))
+    let a = c .before .before .before .before .before .args in (
+      told c,
+      two-le (a .w + 1)
+          (λ i. inside (a .low) (a .high) (field lowFirst (a .page .now) (8 * a .at + a .b + i * a .w) (a .w))) _
+          (omega arith) (told c),
+    )
 
 pub two-spec : {M : Type 1} → statement M
 two-spec =
     tie.close
     (tie.spec
-    add-load8
-    load8-requires
-    shr-x
-    add-d
-    apart-requires
-    ones-two-requires
-    slot-tests-requires
-    returns)
+    (λ c. search needs) (λ c κs. search needs) (λ c. search needs) (λ c. search needs)
+    (λ c κs. search needs) (λ c κs. search needs) slot-tests-requires returns)

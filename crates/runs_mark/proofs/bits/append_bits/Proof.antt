@@ -23,77 +23,40 @@ abbrev μ-loop : tie.MeasureT-loop
 loop-holds : tie.Need-loop-holds Inv-loop μ-loop
 loop-holds c = (omega arith, omega arith, pieces-none _ _ _)
 
-mul-loop : tie.Need-mul-loop Inv-loop μ-loop
-mul-loop c = omega arith
-
-add-loop : tie.Need-add-loop Inv-loop μ-loop
-add-loop c = omega arith
-
-mul-append-at : tie.Need-mul-append-at Inv-loop μ-loop
-mul-append-at c = omega arith
-
-add-append-at : tie.Need-add-append-at Inv-loop μ-loop
-add-append-at c = omega arith
-
-bits-at-requires : tie.Need-bits-at-requires Inv-loop μ-loop
-bits-at-requires c κs = omega arith
-
 append-at-requires : tie.Need-append-at-requires Inv-loop μ-loop
 append-at-requires c κs =
     let small : c .bits-at .result < 2 ^ 56 = rw (c .bits-at .ensures) (mod-lt _ (pow-pos 56)) in
     search needs
-
-add-i : tie.Need-add-i Inv-loop μ-loop
-add-i c = omega arith
-
-loop-less : tie.Need-loop-less Inv-loop μ-loop
-loop-less c = omega arith
 
 loop-again : tie.Need-loop-again Inv-loop μ-loop
 loop-again c =
     let l = c .before .before .before .before .before .before .loop in
     let a = c .before .before .before .before .before .before .before .before .before .args in
     let n = number (a .bits .now) in
-    let size : length (c .before .before .append-at .last .0) ≡ length (l .bitmap) = c .before .before .append-at .kept .0 in
+    let size : length (c .before .before .append-at .last .0) ≡ length (l .bitmap) =
+    c .before .before .append-at .kept .0 in
     let place : 8 * l .i + 56 ≡ 8 * (l .i + 7) = omega arith in
-    let stored : c .before .before .append-at .last .0 ≡ appended (l .bitmap) (a .p + 8 * l .i) (n / 2 ^ (8 * l .i) % 2 ^ 56) 56 =
-    c .before .before .append-at .ensures ∙ ap (λ (x : ℕ). appended (l .bitmap) (a .p + 8 * l .i) x 56) (c .before .before .before .bits-at .ensures) in (
+    let stored : c .before .before .append-at .last .0
+    ≡ appended (l .bitmap) (a .p + 8 * l .i) (n / 2 ^ (8 * l .i) % 2 ^ 56) 56 =
+    c .before .before .append-at .ensures
+    ∙ ap (λ (x : ℕ). appended (l .bitmap) (a .p + 8 * l .i) x 56) (c .before .before .before .bits-at .ensures)
+    in (
       omega arith,
       size ∙ l .inv .1,
       subst (λ (m : ℕ). Begun (a .bitmap .now) (a .p) (n % 2 ^ m) m (c .before .before .append-at .last .0)) place
           (pieces-more (a .bitmap .now) (a .p) n (l .bitmap) _ (8 * l .i) 56 (omega arith) (l .inv .2) stored),
     )
 
-mul-append-at-2 : tie.Need-mul-append-at-2 Inv-loop μ-loop
-mul-append-at-2 c = omega arith
-
-add-append-at-2 : tie.Need-add-append-at-2 Inv-loop μ-loop
-add-append-at-2 c = omega arith
-
-bits-at-requires-2 : tie.Need-bits-at-requires-2 Inv-loop μ-loop
-bits-at-requires-2 c κs = omega arith
-
-mul-append-at-3 : tie.Need-mul-append-at-3 Inv-loop μ-loop
-mul-append-at-3 c = omega arith
-
-sub-append-at : tie.Need-sub-append-at Inv-loop μ-loop
-sub-append-at c = omega arith
-
-cast-append-at : tie.Need-cast-append-at Inv-loop μ-loop
-cast-append-at c = omega arith
-
 append-at-requires-2 : tie.Need-append-at-requires-2 Inv-loop μ-loop
 append-at-requires-2 c κs =
     let a = c .before .before .before .before .before .before .args in
     let i = c .before .before .before .loop .i in
     let whole : a .k ≡ 8 * i + (a .k - 8 * i) = omega arith in
-    let fits : number (a .bits .now) < 2 ^ (8 * i + (a .k - 8 * i)) = rw (← whole) (c .before .before .before .before .before .before .pre .3) in
+    let fits : number (a .bits .now) < 2 ^ (8 * i + (a .k - 8 * i)) =
+    rw (← whole) (c .before .before .before .before .before .before .pre .3) in
     let small : c .bits-at2 .result < 2 ^ (a .k - 8 * i) =
     rw (c .bits-at2 .ensures) (last-piece (number (a .bits .now)) (8 * i) (a .k - 8 * i) 56 (omega arith) fits .1) in
     search needs
-
-same-length : tie.Need-same-length Inv-loop μ-loop
-same-length c = omega arith
 
 returns : tie.Need-returns Inv-loop μ-loop
 returns c =
@@ -104,8 +67,11 @@ returns c =
     let rest = a .k - 8 * l .i in
     let whole : a .k ≡ 8 * l .i + rest = omega arith in
     let fits : n < 2 ^ (8 * l .i + rest) = rw (← whole) (s .pre .3) in
-    let stored : c .before .before .append-at2 .last .0 ≡ appended (l .bitmap) (a .p + 8 * l .i) (n / 2 ^ (8 * l .i) % 2 ^ 56) rest =
-    c .before .before .append-at2 .ensures ∙ ap (λ (x : ℕ). appended (l .bitmap) (a .p + 8 * l .i) x rest) (c .before .before .before .bits-at2 .ensures) in
+    let stored : c .before .before .append-at2 .last .0
+    ≡ appended (l .bitmap) (a .p + 8 * l .i) (n / 2 ^ (8 * l .i) % 2 ^ 56) rest =
+    c .before .before .append-at2 .ensures
+    ∙ ap (λ (x : ℕ). appended (l .bitmap) (a .p + 8 * l .i) x rest)
+    (c .before .before .before .bits-at2 .ensures) in
     pieces-all (a .bitmap .now) (a .p) n (l .bitmap) _ (8 * l .i) rest 56 (omega arith) fits (l .inv .2) stored
     ∙ ap (appended (a .bitmap .now) (a .p) n) (sym whole)
 
@@ -113,24 +79,7 @@ pub append-bits-spec : {M : Type 1} → statement M
 append-bits-spec =
     tie.close
     (tie.spec
-    Inv-loop
-    μ-loop
-    loop-holds
-    mul-loop
-    add-loop
-    mul-append-at
-    add-append-at
-    bits-at-requires
-    append-at-requires
-    add-i
-    loop-less
-    loop-again
-    mul-append-at-2
-    add-append-at-2
-    bits-at-requires-2
-    mul-append-at-3
-    sub-append-at
-    cast-append-at
-    append-at-requires-2
-    same-length
-    returns)
+    Inv-loop μ-loop loop-holds (λ c. omega arith) (λ c. omega arith) (λ c. omega arith) (λ c. omega arith)
+    (λ c κs. omega arith) append-at-requires (λ c. omega arith) (λ c. omega arith) loop-again
+    (λ c. omega arith) (λ c. omega arith) (λ c κs. omega arith) (λ c. omega arith) (λ c. omega arith)
+    (λ c. omega arith) append-at-requires-2 (λ c. omega arith) returns)

@@ -9,21 +9,6 @@ use borrow.Author.Needs.{needs}
 use Rattle.runs_mark.proofs.packed.mark_between.Statement.{statement}
 use Rattle.runs_mark.proofs.packed.mark_between.Tie as tie
 
-sub-mark-part : tie.Need-sub-mark-part
-sub-mark-part c = search needs
-
-part-mark-part-start : tie.Need-part-mark-part-start
-part-mark-part-start c = search needs
-
-part-mark-part-end : tie.Need-part-mark-part-end
-part-mark-part-end c = search needs
-
-mark-part-requires : tie.Need-mark-part-requires
-mark-part-requires c κs = search needs
-
-same-length : tie.Need-same-length
-same-length c = search needs
-
 returns : tie.Need-returns
 returns c =
     let a = c .before .before .before .before .before .before .before .args in
@@ -35,9 +20,5 @@ pub mark-between-spec : {M : Type 1} → statement M
 mark-between-spec =
     tie.close
     (tie.spec
-    sub-mark-part
-    part-mark-part-start
-    part-mark-part-end
-    mark-part-requires
-    same-length
+    (λ c. search needs) (λ c. search needs) (λ c. search needs) (λ c κs. search needs) (λ c. search needs)
     returns)

@@ -1,4 +1,5 @@
--- `runs_mark::packed::mark_inside` meets its contract. The loop's invariant: the entries of g groups of eight are marked, and `at` is their bytes.
+-- `runs_mark::packed::mark_inside` meets its contract. The loop's invariant: the entries of g groups of eight are
+-- marked, and `at` is their bytes.
 use mathlib.Core.Path.{_≡_, ap, subst, _∙_}
 use mathlib.Core.Bool.{Bool}
 use Prim.Native.Nat.{ℕ, _+_, _-_, _*_, _≤_, _<_}
@@ -29,46 +30,23 @@ unfolding word
 loop-holds c = (omega arith, omega arith, omega arith, begun-none _ _)
 
 -- 448 entries more lie within the body
-room : (c : tie.In-loop Inv-loop μ-loop) → let a = c .before .before .before .before .args in c .before .loop .at + 56 * a .w ≤ pageBytes (a .w) (a .m)
+room : (c : tie.In-loop Inv-loop μ-loop)
+    → let a = c .before .before .before .before .args in c .before .loop .at + 56 * a .w ≤ pageBytes (a .w) (a .m)
 room c =
     let s = c .before .before .before .before in
     let l = c .before .loop in
     rw (l .inv .1) (groups-more (l .g) (s .args .w) (s .args .m) (omega arith))
 
-mul-loop : tie.Need-mul-loop Inv-loop μ-loop
-mul-loop c = omega arith
-
-add-loop : tie.Need-add-loop Inv-loop μ-loop
-add-loop c = omega arith
-
-mul-mark-between : tie.Need-mul-mark-between Inv-loop μ-loop
-mul-mark-between c = omega arith
-
 add-mark-between : tie.Need-add-mark-between Inv-loop μ-loop
 add-mark-between c = omega (arith, room c)
-
-mul-mark-between-2 : tie.Need-mul-mark-between-2 Inv-loop μ-loop
-mul-mark-between-2 c = omega arith
-
-add-mark-between-2 : tie.Need-add-mark-between-2 Inv-loop μ-loop
-add-mark-between-2 c = omega arith
 
 mark-between-requires : tie.Need-mark-between-requires Inv-loop μ-loop
 mark-between-requires c κs =
     let within = room (c .before) in
     search needs
 
-mul-at : tie.Need-mul-at Inv-loop μ-loop
-mul-at c = omega arith
-
 add-at : tie.Need-add-at Inv-loop μ-loop
 add-at c = omega (arith, room (c .before .before .before .before))
-
-add-g : tie.Need-add-g Inv-loop μ-loop
-add-g c = omega arith
-
-loop-less : tie.Need-loop-less Inv-loop μ-loop
-loop-less c = omega arith
 
 loop-again : tie.Need-loop-again Inv-loop μ-loop
 loop-again c =
@@ -87,20 +65,9 @@ loop-again c =
       omega (arith, add-mul (l .g) 56 (a .w)),
       size ∙ l .inv .2,
       subst (λ (m : ℕ). Begun (a .bitmap .now) (a .p) (word m test) m marked) place
-          (begun-words (a .bitmap .now) (l .bitmap) marked (a .p) (8 * l .g) 448 (omega arith) test (l .inv .3) stored),
+          (begun-words (a .bitmap .now) (l .bitmap) marked (a .p) (8 * l .g) 448 (omega arith) test (l .inv .3)
+          stored),
     )
-
-mul-mark-between-3 : tie.Need-mul-mark-between-3 Inv-loop μ-loop
-mul-mark-between-3 c = omega arith
-
-sub-mark-between : tie.Need-sub-mark-between Inv-loop μ-loop
-sub-mark-between c = omega arith
-
-mul-mark-between-4 : tie.Need-mul-mark-between-4 Inv-loop μ-loop
-mul-mark-between-4 c = omega arith
-
-add-mark-between-3 : tie.Need-add-mark-between-3 Inv-loop μ-loop
-add-mark-between-3 c = omega arith
 
 mark-between-requires-2 : tie.Need-mark-between-requires-2 Inv-loop μ-loop
 mark-between-requires-2 c κs =
@@ -109,9 +76,6 @@ mark-between-requires-2 c κs =
     let size : pageBytes (s .args .w) (s .args .m) ≡ l .at + pageBytes (s .args .w) (s .args .m - 8 * l .g) =
     rw (l .inv .1) (groups-rest (l .g) (s .args .w) (s .args .m) (omega arith)) in
     search needs
-
-same-length : tie.Need-same-length Inv-loop μ-loop
-same-length c = omega arith
 
 returns : tie.Need-returns Inv-loop μ-loop
 returns c =
@@ -133,25 +97,7 @@ pub mark-inside-spec : {M : Type 1} → statement M
 mark-inside-spec =
     tie.close
     (tie.spec
-    Inv-loop
-    μ-loop
-    loop-holds
-    mul-loop
-    add-loop
-    mul-mark-between
-    add-mark-between
-    mul-mark-between-2
-    add-mark-between-2
-    mark-between-requires
-    mul-at
-    add-at
-    add-g
-    loop-less
-    loop-again
-    mul-mark-between-3
-    sub-mark-between
-    mul-mark-between-4
-    add-mark-between-3
-    mark-between-requires-2
-    same-length
-    returns)
+    Inv-loop μ-loop loop-holds (λ c. omega arith) (λ c. omega arith) (λ c. omega arith) add-mark-between
+    (λ c. omega arith) (λ c. omega arith) mark-between-requires (λ c. omega arith) add-at (λ c. omega arith)
+    (λ c. omega arith) loop-again (λ c. omega arith) (λ c. omega arith) (λ c. omega arith)
+    (λ c. omega arith) mark-between-requires-2 (λ c. omega arith) returns)

@@ -1,4 +1,5 @@
--- `runs_mark::packed::mark_part` meets its contract: the bits that the comparison leaves in zeros are the entries' word.
+-- `runs_mark::packed::mark_part` meets its contract: the bits that the comparison leaves in zeros are the entries'
+-- word.
 use mathlib.Core.Path.{_≡_, ap, _∙_}
 use Prim.Native.Nat.{ℕ, _^_, _<_}
 use Rattle.rules.specs.Bits.{number, word, entry}
@@ -11,41 +12,27 @@ use borrow.Author.Needs.{needs}
 use Rattle.runs_mark.proofs.packed.mark_part.Statement.{statement}
 use Rattle.runs_mark.proofs.packed.mark_part.Tie as tie
 
-slice-aggregate-select : tie.Need-slice-aggregate-select
-slice-aggregate-select c = search needs
-
-select-requires : tie.Need-select-requires
-select-requires c κs = search needs
-
-slice-aggregate-append-bits : tie.Need-slice-aggregate-append-bits
-slice-aggregate-append-bits c = search needs
-
 append-bits-requires : tie.Need-append-bits-requires
 append-bits-requires c κs =
     let a = c .before .before .before .before .before .before .before .args in
     let select = c .before .before .before .select in
-    let bits : number (select .last .1 .1 .1 .1 .0) ≡ word (a .k) (λ i. ranged (a .range) (entry lowFirst (a .part .now) (a .w) i)) =
+    let bits : number (select .last .1 .1 .1 .1 .0)
+    ≡ word (a .k) (λ i. ranged (a .range) (entry lowFirst (a .part .now) (a .w) i)) =
     ap number (select .ensures) ∙ selected-number (a .part .now) 64 (a .w) (a .k) (ranged (a .range)) in
     let small : number (select .last .1 .1 .1 .1 .0) < 2 ^ a .k = rw bits (word-lt (a .k) _) in
     search needs
-
-same-length : tie.Need-same-length
-same-length c = search needs
 
 returns : tie.Need-returns
 returns c =
     let a = c .before .before .before .before .before .before .before .before .before .before .args in
     c .before .before .append-bits .ensures
     ∙ ap (λ (x : ℕ). appended (a .bitmap .now) (a .p) x (a .k))
-    (ap number (c .before .before .before .before .before .before .select .ensures) ∙ selected-number (a .part .now) 64 (a .w) (a .k) (ranged (a .range)))
+    (ap number (c .before .before .before .before .before .before .select .ensures)
+    ∙ selected-number (a .part .now) 64 (a .w) (a .k) (ranged (a .range)))
 
 pub mark-part-spec : {M : Type 1} → statement M
 mark-part-spec =
     tie.close
     (tie.spec
-    slice-aggregate-select
-    select-requires
-    slice-aggregate-append-bits
-    append-bits-requires
-    same-length
+    (λ c. search needs) (λ c κs. search needs) (λ c. search needs) append-bits-requires (λ c. search needs)
     returns)

@@ -12,13 +12,11 @@ use Rattle.runs_mark.proofs.same.fill.Tie as tie
 
 abbrev Inv-loop : tie.InvT-loop
 Inv-loop bitmap₀ a k selected byte i₀ bitmap i =
-    (i ≤ k) × (length bitmap ≡ length bitmap₀) × (bitmap ≡ appended bitmap₀ (8 * a) (word (8 * i) (λ _. selected)) (8 * i))
+    (i ≤ k) × (length bitmap ≡ length bitmap₀)
+    × (bitmap ≡ appended bitmap₀ (8 * a) (word (8 * i) (λ _. selected)) (8 * i))
 
 abbrev μ-loop : tie.MeasureT-loop
 μ-loop bitmap₀ a k selected byte i₀ bitmap i = k - i
-
-same-bits-requires : tie.Need-same-bits-requires Inv-loop μ-loop
-same-bits-requires c κs = omega arith
 
 cast-byte : tie.Need-cast-byte Inv-loop μ-loop
 cast-byte c = omega (arith, c .same-bits .ensures, word-lt 8 (λ _. c .before .before .args .selected))
@@ -27,18 +25,6 @@ loop-holds : tie.Need-loop-holds Inv-loop μ-loop
 unfolding word
 loop-holds c = (omega arith, omega arith, whole-none _ _)
 
-add-bitmap : tie.Need-add-bitmap Inv-loop μ-loop
-add-bitmap c = omega arith
-
-slice-write-bitmap : tie.Need-slice-write-bitmap Inv-loop μ-loop
-slice-write-bitmap c = omega arith
-
-add-i : tie.Need-add-i Inv-loop μ-loop
-add-i c = omega arith
-
-loop-less : tie.Need-loop-less Inv-loop μ-loop
-loop-less c = omega arith
-
 loop-again : tie.Need-loop-again Inv-loop μ-loop
 loop-again c =
     let l = c .before .loop in
@@ -46,11 +32,9 @@ loop-again c =
       omega arith,
       simp length-set (l .inv .1),
       rw (c .before .before .same-bits .ensures)
-          (next-stored (a .bitmap .now) (l .bitmap) (a .a) (l .i) (λ _. a .selected) (omega arith) (l .inv .1) (l .inv .2)),
+          (next-stored (a .bitmap .now) (l .bitmap) (a .a) (l .i) (λ _. a .selected) (omega arith) (l .inv .1)
+          (l .inv .2)),
     )
-
-same-length : tie.Need-same-length Inv-loop μ-loop
-same-length c = omega arith
 
 returns : tie.Need-returns Inv-loop μ-loop
 returns c =
@@ -61,15 +45,5 @@ pub fill-spec : {M : Type 1} → statement M
 fill-spec =
     tie.close
     (tie.spec
-    Inv-loop
-    μ-loop
-    same-bits-requires
-    cast-byte
-    loop-holds
-    add-bitmap
-    slice-write-bitmap
-    add-i
-    loop-less
-    loop-again
-    same-length
-    returns)
+    Inv-loop μ-loop (λ c κs. omega arith) cast-byte loop-holds (λ c. omega arith) (λ c. omega arith)
+    (λ c. omega arith) (λ c. omega arith) loop-again (λ c. omega arith) returns)

@@ -9,12 +9,6 @@ use borrow.Author.Needs.{needs}
 use Rattle.runs_mark.proofs.same.mark_bytes.Statement.{statement}
 use Rattle.runs_mark.proofs.same.mark_bytes.Tie as tie
 
-fill-requires : tie.Need-fill-requires
-fill-requires c κs = search needs
-
-same-length : tie.Need-same-length
-same-length c = search needs
-
 returns : tie.Need-returns
 returns c =
     let a = c .before .before .before .before .before .before .args in
@@ -22,34 +16,18 @@ returns c =
     c .before .before .before .fill .ensures
     ∙ ap (λ (k : ℕ). appended (a .bitmap .now) (8 * a .a) (word k (λ _. a .selected)) k) all
 
-add-mark-few : tie.Need-add-mark-few
-add-mark-few c = search needs
-
-mul-mark-few : tie.Need-mul-mark-few
-mul-mark-few c = search needs
-
-mark-few-requires : tie.Need-mark-few-requires
-mark-few-requires c κs = search needs
-
-same-length-2 : tie.Need-same-length-2
-same-length-2 c = search needs
-
 returns-2 : tie.Need-returns-2
 returns-2 c =
     let a = c .before .before .before .before .before .before .before .before .before .before .args in
     let k = a .m / 8 in
     words-twice (a .bitmap .now) _ _ (8 * a .a) (8 * k) (a .m % 8) (8 * (a .a + k)) (a .m) (λ _. a .selected)
-    (omega arith) (omega arith) (omega arith) (c .before .before .before .before .before .before .before .fill .ensures) (c .before .before .mark-few .ensures)
+    (omega arith) (omega arith) (omega arith)
+    (c .before .before .before .before .before .before .before .fill .ensures)
+    (c .before .before .mark-few .ensures)
 
 pub mark-bytes-spec : {M : Type 1} → statement M
 mark-bytes-spec =
     tie.close
     (tie.spec
-    fill-requires
-    same-length
-    returns
-    add-mark-few
-    mul-mark-few
-    mark-few-requires
-    same-length-2
-    returns-2)
+    (λ c κs. search needs) (λ c. search needs) returns (λ c. search needs) (λ c. search needs)
+    (λ c κs. search needs) (λ c. search needs) returns-2)

@@ -7,23 +7,11 @@ use borrow.Author.Needs.{needs}
 use Rattle.runs_mark.proofs.same.mark_few.Statement.{statement}
 use Rattle.runs_mark.proofs.same.mark_few.Tie as tie
 
-cast-same-bits : tie.Need-cast-same-bits
-cast-same-bits c = search needs
-
-same-bits-requires : tie.Need-same-bits-requires
-same-bits-requires c κs = search needs
-
-cast-append-at : tie.Need-cast-append-at
-cast-append-at c = search needs
-
 append-at-requires : tie.Need-append-at-requires
 append-at-requires c κs =
     let a = c .before .before .before .args in
     let small : c .same-bits .result < 2 ^ a .m = rw (c .same-bits .ensures) (word-lt (a .m) (λ _. a .selected)) in
     search needs
-
-same-length : tie.Need-same-length
-same-length c = search needs
 
 returns : tie.Need-returns
 returns c =
@@ -35,9 +23,5 @@ pub mark-few-spec : {M : Type 1} → statement M
 mark-few-spec =
     tie.close
     (tie.spec
-    cast-same-bits
-    same-bits-requires
-    cast-append-at
-    append-at-requires
-    same-length
+    (λ c. search needs) (λ c κs. search needs) (λ c. search needs) append-at-requires (λ c. search needs)
     returns)

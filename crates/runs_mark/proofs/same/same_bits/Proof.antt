@@ -7,9 +7,6 @@ use Rattle.words.specs.Bits.{one-shl, word-all, word-none}
 use Rattle.runs_mark.proofs.same.same_bits.Statement.{statement}
 use Rattle.runs_mark.proofs.same.same_bits.Tie as tie
 
-shl-result : tie.Need-shl-result
-shl-result c = search needs
-
 sub-result : tie.Need-sub-result
 sub-result c = rw (one-shl 64 (c .before .args .m) (omega arith)) (pow-pos (c .before .args .m))
 
@@ -22,4 +19,4 @@ returns-2 : tie.Need-returns-2
 returns-2 c = rw (c .if1 .left) (sym (word-none (c .before .args .m)))
 
 pub same-bits-spec : {M : Type 1} → statement M
-same-bits-spec = tie.close (tie.spec shl-result sub-result returns returns-2)
+same-bits-spec = tie.close (tie.spec (λ c. search needs) sub-result returns returns-2)

@@ -1,4 +1,5 @@
--- `runs_read::judging::stream_fault` meets its contract. The loop's invariant: the code is what judging on from here gives.
+-- `runs_read::judging::stream_fault` meets its contract. The loop's invariant: the code is what judging on from
+-- here gives.
 -- Each run has an entry, so fewer are left with each turn.
 use mathlib.Core.Path.{_≡_, sym, _∙_}
 use Prim.{tt}
@@ -23,22 +24,17 @@ abbrev μ-loop : tie.MeasureT-loop
 loop-holds : tie.Need-loop-holds Inv-loop μ-loop
 loop-holds c = (search needs, judge-comes _ _ _)
 
-run-at-requires : tie.Need-run-at-requires Inv-loop μ-loop
-run-at-requires c κs = search needs
-
-enum-known-run : tie.Need-enum-known-run Inv-loop μ-loop
-enum-known-run c = search needs
-
-left-after-requires : tie.Need-left-after-requires Inv-loop μ-loop
-left-after-requires c κs = search needs
-
 -- the run that was read: equal entries, or groups
-repeated-run : (c : tie.After-known-told Inv-loop μ-loop) → let b = c .before .before .before .before .before in let v = c .before .run .given .0 in
-    runAt (b .before .before .args .w) (b .loop .left) (b .before .before .args .page .now) (b .loop .at) ≡ Repeated (v .0) (v .1 .0) (v .1 .1 .0)
+repeated-run : (c : tie.After-known-told Inv-loop μ-loop)
+    → let b = c .before .before .before .before .before in let v = c .before .run .given .0 in
+    runAt (b .before .before .args .w) (b .loop .left) (b .before .before .args .page .now) (b .loop .at)
+    ≡ Repeated (v .0) (v .1 .0) (v .1 .1 .0)
 repeated-run c = sym (c .before .before .before .run-at .ensures) ∙ c .before .run .given .1
 
-packed-run : (c : tie.After-known-told2 Inv-loop μ-loop) → let b = c .before .before .before .before .before in let v = c .before .run2 .given .0 in
-    runAt (b .before .before .args .w) (b .loop .left) (b .before .before .args .page .now) (b .loop .at) ≡ Packed (v .0) (v .1 .0) (v .1 .1 .0)
+packed-run : (c : tie.After-known-told2 Inv-loop μ-loop)
+    → let b = c .before .before .before .before .before in let v = c .before .run2 .given .0 in
+    runAt (b .before .before .args .w) (b .loop .left) (b .before .before .args .page .now) (b .loop .at)
+    ≡ Packed (v .0) (v .1 .0) (v .1 .1 .0)
 packed-run c = sym (c .before .before .before .run-at .ensures) ∙ c .before .run2 .given .1
 
 loop-less : tie.Need-loop-less Inv-loop μ-loop
@@ -46,33 +42,32 @@ loop-less c = omega (arith, ran-repeated _ _ _ _ (repeated-run (c .before)), c .
 
 loop-again : tie.Need-loop-again Inv-loop μ-loop
 loop-again c =
-    let b = c .before .before .before .before .before in
-    (omega (arith, c .left-after .ensures), rw (c .left-after .ensures) (on-repeated judge (b .loop-test .taken) (b .before .loop .inv .1) (repeated-run (c .before))))
-
-enum-known-run-2 : tie.Need-enum-known-run-2 Inv-loop μ-loop
-enum-known-run-2 c = search needs
+    let b = c .before .before .before .before .before in (
+      omega (arith, c .left-after .ensures),
+      rw (c .left-after .ensures)
+          (on-repeated judge (b .loop-test .taken) (b .before .loop .inv .1) (repeated-run (c .before))),
+    )
 
 mul-left-after : tie.Need-mul-left-after Inv-loop μ-loop
 mul-left-after c = omega (arith, ran-packed _ _ _ _ (packed-run c))
-
-left-after-requires-2 : tie.Need-left-after-requires-2 Inv-loop μ-loop
-left-after-requires-2 c κs = search needs
 
 loop-less-2 : tie.Need-loop-less-2 Inv-loop μ-loop
 loop-less-2 c = omega (arith, ran-packed _ _ _ _ (packed-run (c .before)), c .left-after2 .ensures)
 
 loop-again-2 : tie.Need-loop-again-2 Inv-loop μ-loop
 loop-again-2 c =
-    let b = c .before .before .before .before .before in
-    (omega (arith, c .left-after2 .ensures), rw (c .left-after2 .ensures) (on-packed judge (b .loop-test .taken) (b .before .loop .inv .1) (packed-run (c .before))))
-
-enum-known-run-3 : tie.Need-enum-known-run-3 Inv-loop μ-loop
-enum-known-run-3 c = search needs
+    let b = c .before .before .before .before .before in (
+      omega (arith, c .left-after2 .ensures),
+      rw (c .left-after2 .ensures)
+          (on-packed judge (b .loop-test .taken) (b .before .loop .inv .1) (packed-run (c .before))),
+    )
 
 returns : tie.Need-returns Inv-loop μ-loop
 returns c =
     let b = c .before .before .before .before in
-    sym (on-refused judge (b .loop-test .taken) (b .before .loop .inv .1) (sym (c .before .before .before .run-at .ensures) ∙ c .before .run3 .given .1))
+    sym
+    (on-refused judge (b .loop-test .taken) (b .before .loop .inv .1)
+    (sym (c .before .before .before .run-at .ensures) ∙ c .before .run3 .given .1))
 
 returns-2 : tie.Need-returns-2 Inv-loop μ-loop
 returns-2 c = sym (on-end judge (c .before .before .loop .inv .1) (search needs) ∙ rw (lt-ltb _ _ (c .if1 .taken)))
@@ -84,20 +79,6 @@ pub stream-fault-spec : {M : Type 1} → statement M
 stream-fault-spec =
     tie.close
     (tie.spec
-    Inv-loop
-    μ-loop
-    loop-holds
-    run-at-requires
-    enum-known-run
-    left-after-requires
-    loop-less
-    loop-again
-    enum-known-run-2
-    mul-left-after
-    left-after-requires-2
-    loop-less-2
-    loop-again-2
-    enum-known-run-3
-    returns
-    returns-2
-    returns-3)
+    Inv-loop μ-loop loop-holds (λ c κs. search needs) (λ c. search needs) (λ c κs. search needs) loop-less
+    loop-again (λ c. search needs) mul-left-after (λ c κs. search needs) loop-less-2 loop-again-2
+    (λ c. search needs) returns returns-2 returns-3)

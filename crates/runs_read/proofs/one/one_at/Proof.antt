@@ -1,4 +1,5 @@
--- `runs_read::one::one_at` meets its contract: each refusal is a law of the rule, and what is left is the run at the place.
+-- `runs_read::one::one_at` meets its contract: each refusal is a law of the rule, and what is left is the run at
+-- the place.
 use mathlib.Core.Path.{_≡_, sym, ap, _∙_}
 use native.Mathlib.Omega.{arith}
 use borrow.Author.Needs.{needs}
@@ -8,9 +9,6 @@ use Rattle.answers.specs.Laws.{within-limits}
 use Rattle.runs_read.specs.One.{one-limited, one-past, one-covered, one-read}
 use Rattle.runs_read.proofs.one.one_at.Statement.{statement}
 use Rattle.runs_read.proofs.one.one_at.Tie as tie
-
-unsigned-fault-requires : tie.Need-unsigned-fault-requires
-unsigned-fault-requires c κs = search needs
 
 returns : tie.Need-returns
 returns c =
@@ -27,9 +25,6 @@ returns-2 c = sym (one-past _ _ _ _ _ (limits (c .before)) (c .if2 .taken))
 returns-3 : tie.Need-returns-3
 returns-3 c = sym (one-covered _ _ _ _ _ (limits (c .before .before)) (c .before .if2 .left) (c .if3 .taken))
 
-sub-run-at : tie.Need-sub-run-at
-sub-run-at c = search needs
-
 run-at-requires : tie.Need-run-at-requires
 run-at-requires c κs =
     let a = c .before .before .before .before .before .args in
@@ -37,16 +32,13 @@ run-at-requires c κs =
     (l .0, omega arith)
 
 returns-4 : tie.Need-returns-4
-returns-4 c = c .run-at .ensures ∙ sym (one-read _ _ _ _ _ (limits (c .before .before .before)) (c .before .before .if2 .left) (c .before .if3 .left))
+returns-4 c =
+    c .run-at .ensures
+    ∙ sym
+    (one-read _ _ _ _ _ (limits (c .before .before .before)) (c .before .before .if2 .left) (c .before .if3 .left))
 
 pub one-at-spec : {M : Type 1} → statement M
 one-at-spec =
     tie.close
     (tie.spec
-    unsigned-fault-requires
-    returns
-    returns-2
-    returns-3
-    sub-run-at
-    run-at-requires
-    returns-4)
+    (λ c κs. search needs) returns returns-2 returns-3 (λ c. search needs) run-at-requires returns-4)

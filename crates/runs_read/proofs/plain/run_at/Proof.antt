@@ -1,4 +1,5 @@
--- `runs_read::plain::run_at` meets its contract: a plain header is the whole number, and by its tests the run is the one that it announces.
+-- `runs_read::plain::run_at` meets its contract: a plain header is the whole number, and by its tests the run is
+-- the one that it announces.
 use mathlib.Core.Path.{_≡_, ap, _∙_}
 use Prim.Native.Nat.{ℕ, _+_, _-_, _*_, _/_, _%_, _^_, _≤_, _<_}
 use native.Mathlib.Nat.{mul-le-mul-right, lt-of-lt-of-le}
@@ -18,15 +19,14 @@ use Rattle.runs_read.specs.Parts.{first-bytes}
 use Rattle.runs_read.proofs.plain.run_at.Statement.{statement}
 use Rattle.runs_read.proofs.plain.run_at.Tie as tie
 
-header-at-requires : tie.Need-header-at-requires
-header-at-requires c κs = search needs
-
 -- the header stands on the page, with four bytes behind it
 plain : (c : tie.Then1) → let a = c .before .before .before .args in let header = c .before .header-at .result in
     (a .at + 5 ≤ length (a .page .now)) × (header < 128) × (header ≡ getD (a .page .now) (a .at) 0)
 plain c = c .before .header-at .ensures (omega arith)
 
-read : (c : tie.Then1) → let a = c .before .before .before .args in numberAt 32 (a .page .now) (a .at) ≡ Read (c .before .header-at .result) (a .at + 1)
+read : (c : tie.Then1)
+    → let a = c .before .before .before .args in
+    numberAt 32 (a .page .now) (a .at) ≡ Read (c .before .header-at .result) (a .at + 1)
 read c =
     let a = c .before .before .before .args in
     let p = plain c in
@@ -35,32 +35,21 @@ read c =
 add-next : tie.Need-add-next
 add-next c = let p = plain c in omega arith
 
-add-k : tie.Need-add-k
-add-k c = search needs
-
 load4-requires : tie.Need-load4-requires
 load4-requires c κs = omega (arith, plain (c .before))
 
-cast-value : tie.Need-cast-value
-cast-value c = search needs
-
-mul-value : tie.Need-mul-value
-mul-value c = search needs
-
-shl-value : tie.Need-shl-value
-shl-value c = search needs
-
 rem-value : tie.Need-rem-value
-rem-value c = let k = ceil (c .before .before .before .before .before .args .w) 8 in rw (one-shl 64 (8 * k) (omega arith)) (pow-pos (8 * k))
-
-shl-if4 : tie.Need-shl-if4
-shl-if4 c = search needs
+rem-value c =
+    let k = ceil (c .before .before .before .before .before .args .w) 8 in
+    rw (one-shl 64 (8 * k) (omega arith)) (pow-pos (8 * k))
 
 -- the value as it is computed, and as the rule reads it
 abbrev value : tie.After-load4 → ℕ
 value c = c .load4 .result % (1 * 2 ^ (8 * ceil (c .before .before .before .before .before .args .w) 8) % 2 ^ 64)
 
-body : (c : tie.After-load4) → let s = c .before .before .before .before .before in value c ≡ number (take (ceil (s .args .w) 8) (drop (s .args .at + 1) (s .args .page .now)))
+body : (c : tie.After-load4)
+    → let s = c .before .before .before .before .before in
+    value c ≡ number (take (ceil (s .args .w) 8) (drop (s .args .at + 1) (s .args .page .now)))
 body c =
     let k = c .before .before .before .before in
     let a = k .before .args in
@@ -69,9 +58,11 @@ body c =
     let four : 4 ≡ size + (4 - size) = omega arith in
     rw (one-shl 64 (8 * size) (omega arith), c .load4 .ensures)
     (ap (λ (n : ℕ). number (take n rest) % 2 ^ (8 * size)) four
-    ∙ first-bytes rest size (4 - size) (small-drop 8 (a .at + 1) (a .page .now) (λ j. k .shared-slice-known .given j .fits)))
+    ∙ first-bytes rest size (4 - size)
+    (small-drop 8 (a .at + 1) (a .page .now) (λ j. k .shared-slice-known .given j .fits)))
 
-small : (c : tie.Then4) → let v = c .before .before in value v < 2 ^ v .before .before .before .before .before .args .w
+small : (c : tie.Then4)
+    → let v = c .before .before in value v < 2 ^ v .before .before .before .before .before .args .w
 small c =
     let v = c .before .before in
     let w = v .before .before .before .before .before .args .w in
@@ -103,9 +94,6 @@ returns c =
       lt-ltb (value v) (2 ^ a .w) (small c),
     )
 
-add-if5 : tie.Need-add-if5
-add-if5 c = search needs
-
 mul-if6 : tie.Need-mul-if6
 mul-if6 c =
     let t = c .before .before in
@@ -116,7 +104,10 @@ sub-if6 : tie.Need-sub-if6
 sub-if6 c = omega (arith, plain (c .before .before))
 
 -- the groups are all there
-there : (c : tie.Then6) → let t = c .before .before .before in let a = t .before .before .before .args in a .w * (t .before .header-at .result / 2) ≤ length (a .page .now) - (a .at + 1)
+there : (c : tie.Then6)
+    → let t = c .before .before .before in
+    let a = t .before .before .before .args in
+    a .w * (t .before .header-at .result / 2) ≤ length (a .page .now) - (a .at + 1)
 there c =
     let t = c .before .before .before in
     let a = t .before .before .before .args in
@@ -142,33 +133,11 @@ returns-2 c =
       le-ltb (length (a .page .now) - (a .at + 1)) (a .w * (h / 2)) (there c),
     )
 
-run-at-requires : tie.Need-run-at-requires
-run-at-requires c κs = search needs
-
-returns-3 : tie.Need-returns-3
-returns-3 c = search needs
-
 pub run-at-spec : {M : Type 1} → statement M
 run-at-spec =
     tie.close
     (tie.spec
-    header-at-requires
-    add-next
-    add-k
-    load4-requires
-    cast-value
-    mul-value
-    shl-value
-    rem-value
-    shl-if4
-    cast-t23
-    add-t24
-    returns
-    add-if5
-    mul-if6
-    sub-if6
-    mul-t32
-    add-t33
-    returns-2
-    run-at-requires
-    returns-3)
+    (λ c κs. search needs) add-next (λ c. search needs) load4-requires (λ c. search needs)
+    (λ c. search needs) (λ c. search needs) rem-value (λ c. search needs) cast-t23 add-t24 returns
+    (λ c. search needs) mul-if6 sub-if6 mul-t32 add-t33 returns-2 (λ c κs. search needs)
+    (λ c. search needs))

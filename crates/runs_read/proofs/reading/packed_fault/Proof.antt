@@ -1,4 +1,5 @@
--- `runs_read::reading::packed_fault` meets its contract: its tests are those of the rule; groups that are not past n are few.
+-- `runs_read::reading::packed_fault` meets its contract: its tests are those of the rule; groups that are not past
+-- n are few.
 use Prim.Native.Nat.{_+_, _*_}
 use native.Mathlib.Nat.{mul-le-mul-right}
 use native.Mathlib.Omega.{arith}
@@ -6,9 +7,6 @@ use borrow.Author.Needs.{needs}
 use borrow.Author.Tests.{lt-ltb, le-ltb}
 use Rattle.runs_read.proofs.reading.packed_fault.Statement.{statement}
 use Rattle.runs_read.proofs.reading.packed_fault.Tie as tie
-
-add-if1 : tie.Need-add-if1
-add-if1 c = search needs
 
 returns : tie.Need-returns
 returns c = rw (lt-ltb (c .before .args .left + 7) (8 * c .before .args .groups) (omega arith))
@@ -27,4 +25,4 @@ returns-3 c =
     rw (le-ltb (a .left + 7) (8 * a .groups) (omega arith), le-ltb (a .len) (a .w * a .groups) (omega arith))
 
 pub packed-fault-spec : {M : Type 1} → statement M
-packed-fault-spec = tie.close (tie.spec add-if1 returns mul-if2 returns-2 returns-3)
+packed-fault-spec = tie.close (tie.spec (λ c. search needs) returns mul-if2 returns-2 returns-3)

@@ -1,4 +1,5 @@
--- `runs_read::reading::run_at` meets its contract: the header ends on the page, and the part that is lent on is the page's rest from there.
+-- `runs_read::reading::run_at` meets its contract: the header ends on the page, and the part that is lent on is the
+-- page's rest from there.
 use mathlib.Core.Logic.{⊎-elim}
 use mathlib.Core.Path.{_≡_, refl, sym, ap, _∙_}
 use mathlib.Core.List.{[], _∷_}
@@ -21,17 +22,9 @@ use Rattle.words.specs.Puts.{part-rest}
 use Rattle.runs_read.proofs.reading.run_at.Statement.{statement}
 use Rattle.runs_read.proofs.reading.run_at.Tie as tie
 
-number-at-requires : tie.Need-number-at-requires
-number-at-requires c κs = search needs
-
-enum-known-header : tie.Need-enum-known-header
-enum-known-header c = search needs
-
-fault-of-requires : tie.Need-fault-of-requires
-fault-of-requires c κs = search needs
-
 -- no header was read
-unread : (f : Number → Run) → Refused 5 ≡ f Ended → Refused 9 ≡ f Beyond → (n : Number) → OneOf (1 ∷ 2 ∷ []) (tagOf the-type n) → Refused (numberFault n) ≡ f n
+unread : (f : Number → Run) → Refused 5 ≡ f Ended → Refused 9 ≡ f Beyond → (n : Number)
+    → OneOf (1 ∷ 2 ∷ []) (tagOf the-type n) → Refused (numberFault n) ≡ f n
 unread f ended beyond (Read h next) tag = absurd (⊎-elim (λ e. omega arith) (λ e. omega arith) tag)
 unread f ended beyond Ended tag = ended
 unread f ended beyond Beyond tag = beyond
@@ -39,7 +32,8 @@ unread f ended beyond Beyond tag = beyond
 returns : tie.Need-returns
 returns c =
     let n = c .before .before .number-at in
-    ap Refused (c .fault-of .ensures) ∙ unread (headed _ _ _) refl refl (n .result) (c .before .match .keys2) ∙ ap (headed _ _ _) (n .ensures)
+    ap Refused (c .fault-of .ensures) ∙ unread (headed _ _ _) refl refl (n .result) (c .before .match .keys2)
+    ∙ ap (headed _ _ _) (n .ensures)
 
 -- the header that was read, and the place behind it
 abbrev header : tie.After-known-told → ℕ
@@ -48,14 +42,19 @@ header c = c .before .header .given .0 .0
 abbrev place : tie.After-known-told → ℕ
 place c = c .before .header .given .0 .1 .0
 
-read : (c : tie.After-known-told) → let a = c .before .before .before .before .before .args in numberAt 32 (a .page .now) (a .at) ≡ Read (header c) (place c)
+read : (c : tie.After-known-told)
+    → let a = c .before .before .before .before .before .args in
+    numberAt 32 (a .page .now) (a .at) ≡ Read (header c) (place c)
 read c = sym (c .before .before .before .number-at .ensures) ∙ c .before .header .given .1
 
 on-page : (c : tie.After-known-told) → place c ≤ length (c .before .before .before .before .before .args .page .now)
-on-page c = let a = c .before .before .before .before .before .args in next-within 32 (a .page .now) (a .at) (header c) (place c) (read c) .0
+on-page c =
+    let a = c .before .before .before .before .before .args in
+    next-within 32 (a .page .now) (a .at) (header c) (place c) (read c) .0
 
 by-header : (c : tie.After-known-told) {r : Run} → let a = c .before .before .before .before .before .args in
-    r ≡ headed (a .w) (a .left) (a .page .now) (Read (header c) (place c)) → r ≡ runAt (a .w) (a .left) (a .page .now) (a .at)
+    r ≡ headed (a .w) (a .left) (a .page .now) (Read (header c) (place c))
+    → r ≡ runAt (a .w) (a .left) (a .page .now) (a .at)
 by-header c e = e ∙ ap (headed _ _ _) (sym (read c))
 
 returns-2 : tie.Need-returns-2
@@ -67,17 +66,13 @@ sub-repeated-at c = on-page (c .before .before)
 part-repeated-at-start : tie.Need-part-repeated-at-start
 part-repeated-at-start c = on-page (c .before .before)
 
-part-repeated-at-end : tie.Need-part-repeated-at-end
-part-repeated-at-end c = search needs
-
-repeated-at-requires : tie.Need-repeated-at-requires
-repeated-at-requires c κs = search needs
-
 returns-3 : tie.Need-returns-3
 returns-3 c =
     let k = c .before .before .before .before in
     let page = k .before .before .before .before .before .args .page .now in
-    by-header k (rw (ne-eqb (header k / 2) 0 (λ none. omega arith), eq-eqb _ _ (c .before .before .if2 .taken)) (c .repeated-at .ensures page (sym (part-rest page (place k)))))
+    by-header k
+    (rw (ne-eqb (header k / 2) 0 (λ none. omega arith), eq-eqb _ _ (c .before .before .if2 .taken))
+    (c .repeated-at .ensures page (sym (part-rest page (place k)))))
 
 sub-packed-at : tie.Need-sub-packed-at
 sub-packed-at c = on-page (c .before .before)
@@ -85,34 +80,18 @@ sub-packed-at c = on-page (c .before .before)
 part-packed-at-start : tie.Need-part-packed-at-start
 part-packed-at-start c = on-page (c .before .before)
 
-part-packed-at-end : tie.Need-part-packed-at-end
-part-packed-at-end c = search needs
-
-packed-at-requires : tie.Need-packed-at-requires
-packed-at-requires c κs = search needs
-
 returns-4 : tie.Need-returns-4
 returns-4 c =
     let k = c .before .before .before .before in
     let page = k .before .before .before .before .before .args .page .now in
-    by-header k (rw (ne-eqb (header k / 2) 0 (λ none. omega arith), ne-eqb _ _ (c .before .before .if2 .left)) (c .packed-at .ensures page (sym (part-rest page (place k)))))
+    by-header k
+    (rw (ne-eqb (header k / 2) 0 (λ none. omega arith), ne-eqb _ _ (c .before .before .if2 .left))
+    (c .packed-at .ensures page (sym (part-rest page (place k)))))
 
 pub run-at-spec : {M : Type 1} → statement M
 run-at-spec =
     tie.close
     (tie.spec
-    number-at-requires
-    enum-known-header
-    fault-of-requires
-    returns
-    returns-2
-    sub-repeated-at
-    part-repeated-at-start
-    part-repeated-at-end
-    repeated-at-requires
-    returns-3
-    sub-packed-at
-    part-packed-at-start
-    part-packed-at-end
-    packed-at-requires
-    returns-4)
+    (λ c κs. search needs) (λ c. search needs) (λ c κs. search needs) returns returns-2 sub-repeated-at
+    part-repeated-at-start (λ c. search needs) (λ c κs. search needs) returns-3 sub-packed-at
+    part-packed-at-start (λ c. search needs) (λ c κs. search needs) returns-4)

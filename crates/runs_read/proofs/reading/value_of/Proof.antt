@@ -1,4 +1,5 @@
--- `runs_read::reading::value_of` meets its contract: of the eight bytes that were read, the remainder keeps the first k.
+-- `runs_read::reading::value_of` meets its contract: of the eight bytes that were read, the remainder keeps the
+-- first k.
 use mathlib.Core.Path.{_≡_, ap, _∙_}
 use Prim.Native.Nat.{ℕ, _+_, _-_, _*_, _%_, _^_}
 use native.Mathlib.Omega.{arith}
@@ -10,15 +11,6 @@ use Rattle.words.specs.Bits.{one-shl}
 use Rattle.runs_read.specs.Parts.{first-bytes}
 use Rattle.runs_read.proofs.reading.value_of.Statement.{statement}
 use Rattle.runs_read.proofs.reading.value_of.Tie as tie
-
-load-any-requires : tie.Need-load-any-requires
-load-any-requires c κs = search needs
-
-mul-result : tie.Need-mul-result
-mul-result c = search needs
-
-shl-result : tie.Need-shl-result
-shl-result c = search needs
 
 rem-result : tie.Need-rem-result
 rem-result c = let k = c .before .before .args .k in rw (one-shl 64 (8 * k) (omega arith)) (pow-pos (8 * k))
@@ -32,4 +24,5 @@ returns c =
     ∙ first-bytes (a .part .now) (a .k) (8 - a .k) (λ j. c .before .shared-slice-known .given j .fits))
 
 pub value-of-spec : {M : Type 1} → statement M
-value-of-spec = tie.close (tie.spec load-any-requires mul-result shl-result rem-result returns)
+value-of-spec =
+    tie.close (tie.spec (λ c κs. search needs) (λ c. search needs) (λ c. search needs) rem-result returns)

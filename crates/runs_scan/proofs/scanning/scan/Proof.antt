@@ -11,23 +11,15 @@ use Rattle.runs_walk.specs.Values.{entry-small}
 use Rattle.runs_scan.proofs.scanning.scan.Statement.{statement}
 use Rattle.runs_scan.proofs.scanning.scan.Tie as tie
 
-arguments-of-requires : tie.Need-arguments-of-requires
-arguments-of-requires c κs = search needs
-
 -- the constants come through the call as they are
-judgement : (c : tie.After-arguments-of) → let a = c .before .before .before .args in argumentsOf (limitFault (a .width) (a .n)) (a .op) (a .a) (a .b) ≡ c .arguments-of .result
+judgement : (c : tie.After-arguments-of)
+    → let a = c .before .before .before .args in
+    argumentsOf (limitFault (a .width) (a .n)) (a .op) (a .a) (a .b) ≡ c .arguments-of .result
 judgement c =
     let s = c .before .before .before in
-    sym (rw (toZ-ofZ w64 (s .args .a) (s .fits .a), toZ-ofZ w64 (s .args .b) (s .fits .b)) at (c .arguments-of .ensures))
-
-enum-known-arguments : tie.Need-enum-known-arguments
-enum-known-arguments c = search needs
-
-refused-requires : tie.Need-refused-requires
-refused-requires c κs = search needs
-
-enum-known-arguments-2 : tie.Need-enum-known-arguments-2
-enum-known-arguments-2 c = search needs
+    sym
+    (rw (toZ-ofZ w64 (s .args .a) (s .fits .a), toZ-ofZ w64 (s .args .b) (s .fits .b)) at
+    (c .arguments-of .ensures))
 
 scan-band-requires : tie.Need-scan-band-requires
 scan-band-requires c κs =
@@ -40,10 +32,8 @@ returns c =
     let s = c .before .before in
     let f = s .before .before .before .before .before in
     let a = f .args in
-    scan-bad (limitFault (a .width) (a .n)) (a .op) (a .a) (a .b) _ _ _ _ _ _ (judgement (s .before .before) ∙ s .arguments .given .1) (c .refused .ensures)
-
-same-length : tie.Need-same-length
-same-length c = search needs
+    scan-bad (limitFault (a .width) (a .n)) (a .op) (a .a) (a .b) _ _ _ _ _ _
+    (judgement (s .before .before) ∙ s .arguments .given .1) (c .refused .ensures)
 
 returns-2 : tie.Need-returns-2
 unfolding Runs.scan
@@ -52,17 +42,14 @@ returns-2 c =
     let f = s .before .before .before .before .before in
     let a = f .args in
     let good = judgement (s .before .before) ∙ s .arguments2 .given .1 in
-    unsigned-good (a .width) (a .n) (a .op) (a .a) (a .b) _ good _ (Runs.streamEntry (a .width) (Runs.read (a .width) (a .n) (a .page .now))) _ _ _ (λ i. entry-small (a .width) (a .n) (a .page .now) i (unsigned-limits _ _ _ _ _ _ good .0)) (c .before .before .scan-band .ensures)
+    unsigned-good (a .width) (a .n) (a .op) (a .a) (a .b) _ good _
+    (Runs.streamEntry (a .width) (Runs.read (a .width) (a .n) (a .page .now))) _ _ _
+    (λ i. entry-small (a .width) (a .n) (a .page .now) i (unsigned-limits _ _ _ _ _ _ good .0))
+    (c .before .before .scan-band .ensures)
 
 pub scan-spec : {M : Type 1} → statement M
 scan-spec =
     tie.close
     (tie.spec
-    arguments-of-requires
-    enum-known-arguments
-    refused-requires
-    enum-known-arguments-2
-    scan-band-requires
-    returns
-    same-length
-    returns-2)
+    (λ c κs. search needs) (λ c. search needs) (λ c κs. search needs) (λ c. search needs) scan-band-requires
+    returns (λ c. search needs) returns-2)

@@ -5,73 +5,66 @@ use lib.ListN.{length}
 use borrow.Author.Needs.{needs}
 use Rattle.rules.specs.Bits.{ceil}
 use Rattle.rules.specs.Runs.{read, streamFault}
+use Rattle.rules.specs.Answer.{_then_, roomFault}
 use Rattle.answers.specs.Laws.{then-zero, has-room, refused-is}
 use Rattle.bitmaps.specs.ScanEnds.{scanned-is}
 use Rattle.compare.specs.Range.{ranged}
-use Rattle.compare.specs.Ranges.{range-fits, range-flip}
+use Rattle.compare.specs.Ranges.{range-usable}
 use Rattle.runs_walk.specs.Marked.{marked}
 use Rattle.runs_walk.specs.Values.{marked-banded}
 use Rattle.runs_scan.proofs.scanning.scan_band.Statement.{statement}
 use Rattle.runs_scan.proofs.scanning.scan_band.Tie as tie
 
-add-fault : tie.Need-add-fault
-add-fault c = search needs
-
-fault-requires : tie.Need-fault-requires
-fault-requires c κs = search needs
-
-refused-requires : tie.Need-refused-requires
-refused-requires c κs = search needs
+-- the first fault of room and page
+found : (c : tie.After-first-fault) → let a = c .before .before .before .before .before .args in
+    c .first-fault .result
+    ≡ (roomFault (length (a .bitmap .now)) (ceil (a .n) 8)
+    then streamFault (read (a .width) (a .n) (a .page .now)))
+found c = cc
 
 returns : tie.Need-returns
-returns c = refused-is _ _ _ _ _ _ (c .refused .ensures) (sym (c .before .before .fault .ensures)) (c .before .if1 .taken)
-
-range-of-requires : tie.Need-range-of-requires
-range-of-requires c κs = search needs
+returns c = refused-is _ _ _ _ _ _ (c .refused .ensures) (sym (found (c .before .before))) (c .before .if1 .taken)
 
 -- without a fault there is room, and the stream is good
-good : (c : tie.Else1) → let a = c .before .before .before .before .args in (ceil (a .n) 8 ≤ length (a .bitmap .now)) × (streamFault (read (a .width) (a .n) (a .page .now)) ≡ 0)
+good : (c : tie.Else1)
+    → let a = c .before .before .before .before .before .before .args in
+    (ceil (a .n) 8 ≤ length (a .bitmap .now)) × (streamFault (read (a .width) (a .n) (a .page .now)) ≡ 0)
 good c =
-    let z = then-zero _ _ (sym (c .before .fault .ensures) ∙ c .if1 .left) in
+    let z = then-zero _ _ (sym (found (c .before)) ∙ c .if1 .left) in
     (has-room _ _ (z .0), z .1)
 
 mark-runs-requires : tie.Need-mark-runs-requires
 mark-runs-requires c κs =
     let s = c .before .before in
-    let p = s .before .before .before .before .pre in
+    let p = s .before .before .before .before .before .before .pre in
     let g = good s in
-    (p .0, p .1, g .0, rw (c .before .range-of .ensures) (range-fits _), rw (c .before .range-of .ensures) (range-flip _))
+    (p .0, p .1, g .0, rw (c .before .range-of .ensures) (range-usable _))
 
 counted-requires : tie.Need-counted-requires
 counted-requires c κs =
     let s = c .before .before .before in
     let e = s .before .before .before in
-    let kept : length (s .mark-runs .last .1 .1 .1 .1 .0) ≡ length (e .before .before .before .before .args .bitmap .now) = s .mark-runs .kept .1 .1 .1 .1 .0 in
-    (e .before .before .before .before .pre .1, rw kept (good e .0))
-
-same-length : tie.Need-same-length
-same-length c = search needs
+    let kept : length (s .mark-runs .last .1 .1 .1 .1 .0) ≡ length
+    (e .before .before .before .before .before .before .args .bitmap .now) = s .mark-runs .kept .1 .1 .1 .1 .0
+    in
+    (e .before .before .before .before .before .before .pre .1, rw kept (good e .0))
 
 returns-2 : tie.Need-returns-2
 returns-2 c =
     let s = c .before .before .before .before in
     let e = s .before .before .before in
-    let f = e .before .before .before .before in
+    let f = e .before .before .before .before .before .before in
     let a = f .args in
-    let bits = s .mark-runs .ensures ∙ ap (λ r. marked (ranged r) (a .width) (a .n) (a .page .now) (a .bitmap .now)) (s .before .before .range-of .ensures)
+    let bits = s .mark-runs .ensures
+    ∙ ap (λ r. marked (ranged r) (a .width) (a .n) (a .page .now) (a .bitmap .now))
+    (s .before .before .range-of .ensures)
     ∙ marked-banded (a .band) (a .width) (a .n) (a .page .now) (a .bitmap .now) (f .pre .0) (good e .1) in
-    scanned-is _ (a .n) _ _ _ _ (sym (e .before .fault .ensures) ∙ e .if1 .left) bits (c .counted .ensures)
+    scanned-is _ (a .n) _ _ _ _ (sym (found (e .before)) ∙ e .if1 .left) bits (c .counted .ensures)
 
 pub scan-band-spec : {M : Type 1} → statement M
 scan-band-spec =
     tie.close
     (tie.spec
-    add-fault
-    fault-requires
-    refused-requires
-    returns
-    range-of-requires
-    mark-runs-requires
-    counted-requires
-    same-length
-    returns-2)
+    (λ c. search needs) (λ c κs. search needs) (λ c κs. search needs) (λ c κs. search needs)
+    (λ c κs. search needs) returns (λ c κs. search needs) mark-runs-requires counted-requires
+    (λ c. search needs) returns-2)

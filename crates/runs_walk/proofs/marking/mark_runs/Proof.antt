@@ -1,4 +1,5 @@
--- `runs_walk::marking::mark_runs` meets its contract. The loop's invariant: going on from here leaves what the pass leaves.
+-- `runs_walk::marking::mark_runs` meets its contract. The loop's invariant: going on from here leaves what the pass
+-- leaves.
 -- Each run has an entry, so fewer are left with each turn.
 use mathlib.Core.Path.{_≡_, refl, sym, ap, _∙_}
 use mathlib.Core.Bool.{Bool}
@@ -20,36 +21,34 @@ use Rattle.runs_walk.proofs.marking.mark_runs.Tie as tie
 
 abbrev Inv-loop : tie.InvT-loop
 Inv-loop page w n range bitmap₀ at₀ i₀ bitmap at i =
-    (i ≤ n + 7) × (length bitmap ≡ length bitmap₀) × onward n (marks (ranged range)) w page (marked (ranged range) w n page bitmap₀) at i bitmap
+    (i ≤ n + 7) × (length bitmap ≡ length bitmap₀)
+    × onward n (marks (ranged range)) w page (marked (ranged range) w n page bitmap₀) at i bitmap
 
 abbrev μ-loop : tie.MeasureT-loop
 μ-loop page w n range bitmap₀ at₀ i₀ bitmap at i = n - i
 
 -- the run that was read: equal entries, or groups
-repeated-run : (c : tie.After-known-told Inv-loop μ-loop) → let b = c .before .before .before .before .before in let a = b .before .before .before .args in let v = c .before .run .given .0 in
+repeated-run : (c : tie.After-known-told Inv-loop μ-loop)
+    → let b = c .before .before .before .before .before in
+    let a = b .before .before .before .args in
+    let v = c .before .run .given .0 in
     runAt (a .w) (a .n - b .loop .i) (a .page .now) (b .loop .at) ≡ Repeated (v .0) (v .1 .0) (v .1 .1 .0)
 repeated-run c = sym (c .before .before .before .run-at .ensures) ∙ c .before .run .given .1
 
-packed-run : (c : tie.After-known-told2 Inv-loop μ-loop) → let b = c .before .before .before .before .before in let a = b .before .before .before .args in let v = c .before .run2 .given .0 in
+packed-run : (c : tie.After-known-told2 Inv-loop μ-loop)
+    → let b = c .before .before .before .before .before in
+    let a = b .before .before .before .args in
+    let v = c .before .run2 .given .0 in
     runAt (a .w) (a .n - b .loop .i) (a .page .now) (b .loop .at) ≡ Packed (v .0) (v .1 .0) (v .1 .1 .0)
 packed-run c = sym (c .before .before .before .run-at .ensures) ∙ c .before .run2 .given .1
 
 loop-holds : tie.Need-loop-holds Inv-loop μ-loop
 loop-holds c =
-    let a = c .before .before .args in
-    (search needs, refl, begins (a .n) (marks (ranged (a .range))) (a .w) (a .page .now) _ (a .bitmap .now) (marked-pass _ _ _ _ _))
-
-sub-run-at : tie.Need-sub-run-at Inv-loop μ-loop
-sub-run-at c = search needs
-
-run-at-requires : tie.Need-run-at-requires Inv-loop μ-loop
-run-at-requires c κs = search needs
-
-enum-known-run : tie.Need-enum-known-run Inv-loop μ-loop
-enum-known-run c = search needs
-
-passes-requires : tie.Need-passes-requires Inv-loop μ-loop
-passes-requires c κs = search needs
+    let a = c .before .before .args in (
+      search needs,
+      refl,
+      begins (a .n) (marks (ranged (a .range))) (a .w) (a .page .now) _ (a .bitmap .now) (marked-pass _ _ _ _ _),
+    )
 
 mark-same-requires : tie.Need-mark-same-requires Inv-loop μ-loop
 mark-same-requires c κs =
@@ -70,29 +69,35 @@ loop-again c =
     let ran = ran-repeated _ _ _ _ (repeated-run r) in (
       omega arith,
       search needs,
-      on-repeated _ (marks (ranged (b .before .before .before .args .range))) _ _ _ (omega arith) (b .loop .inv .2) (repeated-run r)
-          (c .before .before .mark-same .ensures ∙ ap (λ (t : Bool). appended (b .loop .bitmap) (b .loop .i) (word (r .before .run .given .0 .0) (λ _. t)) (r .before .run .given .0 .0)) (c .before .before .before .passes .ensures)),
+      on-repeated _ (marks (ranged (b .before .before .before .args .range))) _ _ _ (omega arith) (b .loop .inv .2)
+          (repeated-run r)
+          (c .before .before .mark-same .ensures
+          ∙ ap
+          (λ (t : Bool). appended (b .loop .bitmap) (b .loop .i) (word (r .before .run .given .0 .0) (λ _. t))
+          (r .before .run .given .0 .0)) (c .before .before .before .passes .ensures)),
     )
-
-enum-known-run-2 : tie.Need-enum-known-run-2 Inv-loop μ-loop
-enum-known-run-2 c = search needs
 
 mul-min : tie.Need-mul-min Inv-loop μ-loop
 mul-min c = omega (arith, ran-packed _ _ _ _ (packed-run c))
-
-sub-min : tie.Need-sub-min Inv-loop μ-loop
-sub-min c = search needs
-
-min-requires : tie.Need-min-requires Inv-loop μ-loop
-min-requires c κs = search needs
 
 mark-body-requires : tie.Need-mark-body-requires Inv-loop μ-loop
 mark-body-requires c κs =
     let r = c .before .before in
     let b = r .before .before .before .before .before in
     let ran = ran-packed _ _ _ _ (packed-run r) in
-    let m = c .before .min .ensures in
-    (search needs, omega arith, omega arith, omega arith, omega (arith, body-fits (b .before .before .before .args .w) (r .before .run2 .given .0 .0) (c .before .min .result) (omega arith)), omega (arith, b .loop .inv .1), search needs, search needs)
+    let m = c .before .min .ensures in (
+      search needs,
+      omega arith,
+      omega arith,
+      omega arith,
+      omega (
+        arith,
+        body-fits (b .before .before .before .args .w) (r .before .run2 .given .0 .0) (c .before .min .result)
+            (omega arith),
+      ),
+      omega (arith, b .loop .inv .1),
+      search needs,
+    )
 
 mul-i : tie.Need-mul-i Inv-loop μ-loop
 mul-i c = omega (arith, ran-packed _ _ _ _ (packed-run (c .before .before .before .before .before)))
@@ -112,53 +117,30 @@ loop-again-2 c =
     let ran = ran-packed _ _ _ _ (packed-run r) in (
       omega arith,
       search needs,
-      on-packed _ (marks (ranged (b .before .before .before .args .range))) _ _ _ (omega arith) (b .loop .inv .2) (packed-run r)
-          (marked-body (ranged (a .range)) (a .page .now) _ _ (a .w) (v .1 .0) (v .0) _ _ _ (c .before .before .before .before .min .ensures) (c .before .before .mark-body .ensures)),
+      on-packed _ (marks (ranged (b .before .before .before .args .range))) _ _ _ (omega arith) (b .loop .inv .2)
+          (packed-run r)
+          (marked-body (ranged (a .range)) (a .page .now) _ _ (a .w) (v .1 .0) (v .0) _ _ _
+          (c .before .before .before .before .min .ensures) (c .before .before .mark-body .ensures)),
     )
-
-enum-told : tie.Need-enum-told Inv-loop μ-loop
-enum-told c = search needs
-
-same-length : tie.Need-same-length Inv-loop μ-loop
-same-length c = search needs
 
 returns : tie.Need-returns Inv-loop μ-loop
 returns c =
     let b = c .before .before .before .before in
-    sym (on-refused _ (marks (ranged (b .before .before .before .args .range))) _ _ _ (search needs) (b .loop .inv .2) (sym (c .before .before .run-at .ensures) ∙ c .enum-told .given .1))
-
-same-length-2 : tie.Need-same-length-2 Inv-loop μ-loop
-same-length-2 c = search needs
+    sym
+    (on-refused _ (marks (ranged (b .before .before .before .args .range))) _ _ _ (search needs)
+    (b .loop .inv .2) (sym (c .before .before .run-at .ensures) ∙ c .enum-told .given .1))
 
 returns-2 : tie.Need-returns-2 Inv-loop μ-loop
-returns-2 c = sym (ends _ (marks (ranged (c .before .before .before .before .args .range))) _ _ _ (c .before .loop .inv .2) (search needs))
+returns-2 c =
+    sym
+    (ends _ (marks (ranged (c .before .before .before .before .args .range))) _ _ _ (c .before .loop .inv .2)
+    (search needs))
 
 pub mark-runs-spec : {M : Type 1} → statement M
 mark-runs-spec =
     tie.close
     (tie.spec
-    Inv-loop
-    μ-loop
-    loop-holds
-    sub-run-at
-    run-at-requires
-    enum-known-run
-    passes-requires
-    mark-same-requires
-    add-i
-    loop-less
-    loop-again
-    enum-known-run-2
-    mul-min
-    sub-min
-    min-requires
-    mark-body-requires
-    mul-i
-    add-i-2
-    loop-less-2
-    loop-again-2
-    enum-told
-    same-length
-    returns
-    same-length-2
-    returns-2)
+    Inv-loop μ-loop loop-holds (λ c. search needs) (λ c κs. search needs) (λ c. search needs)
+    (λ c κs. search needs) mark-same-requires add-i loop-less loop-again (λ c. search needs) mul-min
+    (λ c. search needs) (λ c κs. search needs) mark-body-requires mul-i add-i-2 loop-less-2 loop-again-2
+    (λ c. search needs) (λ c. search needs) returns (λ c. search needs) returns-2)

@@ -17,14 +17,11 @@ abbrev μ-loop : tie.MeasureT-loop
 μ-loop entries w size₀ p₀ size p = length entries - p
 
 -- the run of this turn
-run : (c : tie.After-next-run Inv-loop μ-loop) → let b = c .before .before in let a = b .before .before .args in BeginsWith (a .w) (a .entries .now) (b .loop .p) (c .next-run .result)
+run : (c : tie.After-next-run Inv-loop μ-loop)
+    → let b = c .before .before in
+    let a = b .before .before .args in
+    BeginsWith (a .w) (a .entries .now) (b .loop .p) (c .next-run .result)
 run c = begins-with _ _ _ (c .before .loop-test .taken) (c .next-run .ensures)
-
-loop-holds : tie.Need-loop-holds Inv-loop μ-loop
-loop-holds c = omega arith
-
-next-run-requires : tie.Need-next-run-requires Inv-loop μ-loop
-next-run-requires c κs = search needs
 
 run-size-requires : tie.Need-run-size-requires Inv-loop μ-loop
 run-size-requires c κs = (omega arith, omega (arith, run c))
@@ -32,7 +29,12 @@ run-size-requires c κs = (omega arith, omega (arith, run c))
 add-size : tie.Need-add-size Inv-loop μ-loop
 add-size c =
     let a = c .before .before .before .before .before .args in
-    omega (arith, run (c .before), stream-size-le (a .w) (c .before .before .before .before .before .pre .0) (a .entries .now) (c .before .before .before .before .before .pre .1))
+    omega (
+      arith,
+      run (c .before),
+      stream-size-le (a .w) (c .before .before .before .before .before .pre .0) (a .entries .now)
+          (c .before .before .before .before .before .pre .1),
+    )
 
 taken-requires : tie.Need-taken-requires Inv-loop μ-loop
 taken-requires c κs = omega (arith, run (c .before))
@@ -60,14 +62,5 @@ pub stream-size-spec : {M : Type 1} → statement M
 stream-size-spec =
     tie.close
     (tie.spec
-    Inv-loop
-    μ-loop
-    loop-holds
-    next-run-requires
-    run-size-requires
-    add-size
-    taken-requires
-    add-p
-    loop-less
-    loop-again
-    returns)
+    Inv-loop μ-loop (λ c. omega arith) (λ c κs. search needs) run-size-requires add-size taken-requires
+    add-p loop-less loop-again returns)

@@ -1,4 +1,5 @@
--- `runs_write::stretches::groups_at` meets its contract: the groups passed, and those that the rest of the 63 take from here on.
+-- `runs_write::stretches::groups_at` meets its contract: the groups passed, and those that the rest of the 63 take
+-- from here on.
 use mathlib.Core.Path.{_≡_, _∙_}
 use Prim.Native.Nat.{suc, _+_, _-_, _*_, _≤_}
 use native.Mathlib.Omega.{arith}
@@ -12,7 +13,8 @@ use Rattle.runs_write.proofs.stretches.groups_at.Tie as tie
 
 abbrev Inv-loop : tie.InvT-loop
 Inv-loop entries p groups₀ at₀ groups at =
-    (groups ≤ 63) × (at ≡ p + 8 * groups) × (groupsOf 63 (drop p entries) ≡ groups + groupsOf (63 - groups) (drop at entries))
+    (groups ≤ 63) × (at ≡ p + 8 * groups)
+    × (groupsOf 63 (drop p entries) ≡ groups + groupsOf (63 - groups) (drop at entries))
 
 abbrev μ-loop : tie.MeasureT-loop
 μ-loop entries p groups₀ at₀ groups at = 63 - groups
@@ -26,20 +28,11 @@ returns c =
     let s = c .before .before .before .before .args .entries .now in
     omega (arith, groups-past s (63 - l .groups) (l .at) (c .if1 .taken))
 
-stretch-at-requires : tie.Need-stretch-at-requires Inv-loop μ-loop
-stretch-at-requires c κs = search needs
-
 returns-2 : tie.Need-returns-2 Inv-loop μ-loop
 returns-2 c =
     let l = c .before .before .before .before .loop in
     let s = c .before .before .before .before .before .before .args .entries .now in
     omega (arith, groups-closed (63 - l .groups) (drop (l .at) s) (omega arith))
-
-add-groups : tie.Need-add-groups Inv-loop μ-loop
-add-groups c = search needs
-
-add-at : tie.Need-add-at Inv-loop μ-loop
-add-at c = search needs
 
 loop-less : tie.Need-loop-less Inv-loop μ-loop
 loop-less c = search needs
@@ -63,14 +56,5 @@ pub groups-at-spec : {M : Type 1} → statement M
 groups-at-spec =
     tie.close
     (tie.spec
-    Inv-loop
-    μ-loop
-    loop-holds
-    returns
-    stretch-at-requires
-    returns-2
-    add-groups
-    add-at
-    loop-less
-    loop-again
-    returns-3)
+    Inv-loop μ-loop loop-holds returns (λ c κs. search needs) returns-2 (λ c. search needs)
+    (λ c. search needs) loop-less loop-again returns-3)

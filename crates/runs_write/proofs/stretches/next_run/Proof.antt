@@ -8,16 +8,10 @@ use Rattle.runs_write.specs.Cuts.{next-repeats, next-packs}
 use Rattle.runs_write.proofs.stretches.next_run.Statement.{statement}
 use Rattle.runs_write.proofs.stretches.next_run.Tie as tie
 
-stretch-at-requires : tie.Need-stretch-at-requires
-stretch-at-requires c κs = search needs
-
 returns : tie.Need-returns
 returns c =
     let a = c .before .before .before .args in
     ap Repeats (c .before .stretch-at .ensures) ∙ sym (next-repeats (drop (a .p) (a .entries .now)) (omega arith))
-
-groups-at-requires : tie.Need-groups-at-requires
-groups-at-requires c κs = search needs
 
 returns-2 : tie.Need-returns-2
 returns-2 c =
@@ -25,4 +19,4 @@ returns-2 c =
     ap Packs (c .groups-at .ensures) ∙ sym (next-packs (drop (a .p) (a .entries .now)) (omega arith))
 
 pub next-run-spec : {M : Type 1} → statement M
-next-run-spec = tie.close (tie.spec stretch-at-requires returns groups-at-requires returns-2)
+next-run-spec = tie.close (tie.spec (λ c κs. search needs) returns (λ c κs. search needs) returns-2)

@@ -6,20 +6,12 @@ use Rattle.rules.specs.RunWriter as RunWriter
 use Rattle.runs_write.proofs.stretches.taken.Statement.{statement}
 use Rattle.runs_write.proofs.stretches.taken.Tie as tie
 
-enum-known-next : tie.Need-enum-known-next
-enum-known-next c = search needs
-
-enum-known-next-2 : tie.Need-enum-known-next-2
-enum-known-next-2 c = search needs
-
 mul-result : tie.Need-mul-result
 mul-result c = omega (arith, ap RunWriter.taken (c .before .next2 .given .1))
-
-returns : tie.Need-returns
-returns c = search needs
 
 returns-2 : tie.Need-returns-2
 returns-2 c = sym (ap RunWriter.taken (c .before .next2 .given .1))
 
 pub taken-spec : {M : Type 1} → statement M
-taken-spec = tie.close (tie.spec enum-known-next enum-known-next-2 mul-result returns returns-2)
+taken-spec =
+    tie.close (tie.spec (λ c. search needs) (λ c. search needs) mul-result (λ c. search needs) returns-2)

@@ -12,37 +12,15 @@ use Rattle.runs_write.specs.Sizes.{length-groups}
 use Rattle.runs_write.proofs.writing.put_packed.Statement.{statement}
 use Rattle.runs_write.proofs.writing.put_packed.Tie as tie
 
-mul-put-number : tie.Need-mul-put-number
-mul-put-number c = search needs
-
-add-put-number : tie.Need-add-put-number
-add-put-number c = search needs
-
-cast-put-number : tie.Need-cast-put-number
-cast-put-number c = search needs
-
-put-number-requires : tie.Need-put-number-requires
-put-number-requires c κs = search needs
-
-put-groups-requires : tie.Need-put-groups-requires
-put-groups-requires c κs = search needs
-
-mul-result : tie.Need-mul-result
-mul-result c = search needs
-
-add-result : tie.Need-add-result
-add-result c = search needs
-
-same-length : tie.Need-same-length
-same-length c = search needs
-
 returns : tie.Need-returns
 unfolding runBytes
 returns c =
     let a = c .before .before .before .before .before .before .before .before .before .before .args in
     let header = c .before .before .before .before .before .before .put-number in
     let s = drop (a .p) (a .entries .now) in (
-      put-behind (a .page .now) (a .at) (shortest (2 * a .groups + 1)) (packed lowFirst (a .w) (filled (a .groups) s)) (header .ensures .0) (header .ensures .1) (c .before .before .put-groups .ensures)
+      put-behind (a .page .now) (a .at) (shortest (2 * a .groups + 1))
+          (packed lowFirst (a .w) (filled (a .groups) s)) (header .ensures .0) (header .ensures .1)
+          (c .before .before .put-groups .ensures)
           (omega (arith, length-groups (a .w) (a .groups) s)),
       omega (arith, header .ensures .1),
     )
@@ -51,12 +29,5 @@ pub put-packed-spec : {M : Type 1} → statement M
 put-packed-spec =
     tie.close
     (tie.spec
-    mul-put-number
-    add-put-number
-    cast-put-number
-    put-number-requires
-    put-groups-requires
-    mul-result
-    add-result
-    same-length
-    returns)
+    (λ c. search needs) (λ c. search needs) (λ c. search needs) (λ c κs. search needs)
+    (λ c κs. search needs) (λ c. search needs) (λ c. search needs) (λ c. search needs) returns)

@@ -13,35 +13,12 @@ use Rattle.words.specs.Puts.{put-behind}
 use Rattle.runs_write.proofs.writing.put_repeated.Statement.{statement}
 use Rattle.runs_write.proofs.writing.put_repeated.Tie as tie
 
-mul-put-number : tie.Need-mul-put-number
-mul-put-number c = search needs
-
-cast-put-number : tie.Need-cast-put-number
-cast-put-number c = search needs
-
-put-number-requires : tie.Need-put-number-requires
-put-number-requires c κs = search needs
-
-add-size : tie.Need-add-size
-add-size c = search needs
-
-mul-store-low : tie.Need-mul-store-low
-mul-store-low c = search needs
-
-shared-slice-read-store-low : tie.Need-shared-slice-read-store-low
-shared-slice-read-store-low c = search needs
-
 cast-store-low : tie.Need-cast-store-low
-cast-store-low c = omega (arith, c .shared-slice-known2 .given (c .before .before .before .before .before .before .before .before .args .p))
-
-store-low-requires : tie.Need-store-low-requires
-store-low-requires c κs = search needs
-
-add-result : tie.Need-add-result
-add-result c = search needs
-
-same-length : tie.Need-same-length
-same-length c = search needs
+cast-store-low c =
+    omega (
+      arith,
+      c .shared-slice-known2 .given (c .before .before .before .before .before .before .before .before .args .p),
+    )
 
 returns : tie.Need-returns
 unfolding runBytes
@@ -50,7 +27,9 @@ returns c =
     let header = c .before .before .before .before .before .before .before .put-number in
     let value = bytes (ceil (a .w) 8) (getD (a .entries .now) (a .p) 0) in
     rw (getD-drop, add-zero) (
-      put-behind (a .page .now) (a .at) (shortest (2 * a .count)) value (header .ensures .0) (header .ensures .1) (c .before .before .store-low .ensures) (omega (arith, length-bytes (ceil (a .w) 8) (getD (a .entries .now) (a .p) 0))),
+      put-behind (a .page .now) (a .at) (shortest (2 * a .count)) value (header .ensures .0) (header .ensures .1)
+          (c .before .before .store-low .ensures)
+          (omega (arith, length-bytes (ceil (a .w) 8) (getD (a .entries .now) (a .p) 0))),
       omega (arith, header .ensures .1),
     )
 
@@ -58,14 +37,6 @@ pub put-repeated-spec : {M : Type 1} → statement M
 put-repeated-spec =
     tie.close
     (tie.spec
-    mul-put-number
-    cast-put-number
-    put-number-requires
-    add-size
-    mul-store-low
-    shared-slice-read-store-low
-    cast-store-low
-    store-low-requires
-    add-result
-    same-length
+    (λ c. search needs) (λ c. search needs) (λ c κs. search needs) (λ c. search needs) (λ c. search needs)
+    (λ c. search needs) cast-store-low (λ c κs. search needs) (λ c. search needs) (λ c. search needs)
     returns)

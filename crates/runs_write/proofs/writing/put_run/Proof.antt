@@ -10,51 +10,58 @@ use Rattle.runs_write.specs.Sizes.{runSize, length-run-bytes}
 use Rattle.runs_write.proofs.writing.put_run.Statement.{statement}
 use Rattle.runs_write.proofs.writing.put_run.Tie as tie
 
-enum-known-next : tie.Need-enum-known-next
-enum-known-next c = search needs
-
 put-repeated-requires : tie.Need-put-repeated-requires
 put-repeated-requires c κs =
     let s = c .before .before .before .before .before .before in
-    let e = c .before .before .next .given .1 in
-    (s .pre .0, omega (arith, ap taken e), s .pre .1, omega (arith, ap (runSize (s .args .w)) e, length-run-bytes (s .args .w) (drop (s .args .p) (s .args .entries .now)) (s .args .next)))
-
-enum-known-next-2 : tie.Need-enum-known-next-2
-enum-known-next-2 c = search needs
+    let e = c .before .before .next .given .1 in (
+      s .pre .0,
+      omega (arith, ap taken e),
+      s .pre .1,
+      omega (
+        arith,
+        ap (runSize (s .args .w)) e,
+        length-run-bytes (s .args .w) (drop (s .args .p) (s .args .entries .now)) (s .args .next),
+      ),
+    )
 
 put-packed-requires : tie.Need-put-packed-requires
 put-packed-requires c κs =
     let s = c .before .before .before .before .before .before in
-    let e = c .before .before .next2 .given .1 in
-    (s .pre .0, omega (arith, ap taken e), omega arith, s .pre .2, omega (arith, ap (runSize (s .args .w)) e, length-run-bytes (s .args .w) (drop (s .args .p) (s .args .entries .now)) (s .args .next)))
-
-same-length : tie.Need-same-length
-same-length c = search needs
+    let e = c .before .before .next2 .given .1 in (
+      s .pre .0,
+      omega (arith, ap taken e),
+      omega arith,
+      s .pre .2,
+      omega (
+        arith,
+        ap (runSize (s .args .w)) e,
+        length-run-bytes (s .args .w) (drop (s .args .p) (s .args .entries .now)) (s .args .next),
+      ),
+    )
 
 returns : tie.Need-returns
 returns c =
     let a = c .before .before .before .before .before .before .before .before .before .args in
     let laid = c .before .before .put-repeated in
-    rw (c .before .before .before .before .before .next .given .1) (laid .ensures .0, laid .ensures .1 ∙ ap (λ k. a .at + k) (sym (length-run-bytes (a .w) (drop (a .p) (a .entries .now)) (Repeats _))))
-
-same-length-2 : tie.Need-same-length-2
-same-length-2 c = search needs
+    rw (c .before .before .before .before .before .next .given .1) (
+      laid .ensures .0,
+      laid .ensures .1
+          ∙ ap (λ k. a .at + k) (sym (length-run-bytes (a .w) (drop (a .p) (a .entries .now)) (Repeats _))),
+    )
 
 returns-2 : tie.Need-returns-2
 returns-2 c =
     let a = c .before .before .before .before .before .before .before .before .before .args in
     let laid = c .before .before .put-packed in
-    rw (c .before .before .before .before .before .next2 .given .1) (laid .ensures .0, laid .ensures .1 ∙ ap (λ k. a .at + k) (sym (length-run-bytes (a .w) (drop (a .p) (a .entries .now)) (Packs _))))
+    rw (c .before .before .before .before .before .next2 .given .1) (
+      laid .ensures .0,
+      laid .ensures .1
+          ∙ ap (λ k. a .at + k) (sym (length-run-bytes (a .w) (drop (a .p) (a .entries .now)) (Packs _))),
+    )
 
 pub put-run-spec : {M : Type 1} → statement M
 put-run-spec =
     tie.close
     (tie.spec
-    enum-known-next
-    put-repeated-requires
-    enum-known-next-2
-    put-packed-requires
-    same-length
-    returns
-    same-length-2
-    returns-2)
+    (λ c. search needs) put-repeated-requires (λ c. search needs) put-packed-requires (λ c. search needs)
+    returns (λ c. search needs) returns-2)

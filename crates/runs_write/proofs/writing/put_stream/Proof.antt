@@ -1,4 +1,5 @@
--- `runs_write::writing::put_stream` meets its contract: the runs passed are stored, and the stream from here on is to come behind them.
+-- `runs_write::writing::put_stream` meets its contract: the runs passed are stored, and the stream from here on is
+-- to come behind them.
 use mathlib.Core.Path.{_≡_, refl, sym, ap, _∙_}
 use Prim.Native.Nat.{_+_, _-_}
 use native.Mathlib.Omega.{arith}
@@ -13,20 +14,21 @@ use Rattle.runs_write.proofs.writing.put_stream.Tie as tie
 
 abbrev Inv-loop : tie.InvT-loop
 Inv-loop entries w page₀ at₀ p₀ page at p =
-    (length page ≡ length page₀) × (at + length (stream w (drop p entries)) ≡ length (stream w entries)) × (put page at (stream w (drop p entries)) ≡ put page₀ 0 (stream w entries))
+    (length page ≡ length page₀) × (at + length (stream w (drop p entries)) ≡ length (stream w entries))
+    × (put page at (stream w (drop p entries)) ≡ put page₀ 0 (stream w entries))
 
 abbrev μ-loop : tie.MeasureT-loop
 μ-loop entries w page₀ at₀ p₀ page at p = length entries - p
 
 -- the run of this turn
-run : (c : tie.After-next-run Inv-loop μ-loop) → let b = c .before .before in let a = b .before .before .before .args in BeginsWith (a .w) (a .entries .now) (b .loop .p) (c .next-run .result)
+run : (c : tie.After-next-run Inv-loop μ-loop)
+    → let b = c .before .before in
+    let a = b .before .before .before .args in
+    BeginsWith (a .w) (a .entries .now) (b .loop .p) (c .next-run .result)
 run c = begins-with _ _ _ (c .before .loop-test .taken) (c .next-run .ensures)
 
 loop-holds : tie.Need-loop-holds Inv-loop μ-loop
 loop-holds c = (refl, omega arith, refl)
-
-next-run-requires : tie.Need-next-run-requires Inv-loop μ-loop
-next-run-requires c κs = search needs
 
 put-run-requires : tie.Need-put-run-requires Inv-loop μ-loop
 put-run-requires c κs =
@@ -52,30 +54,21 @@ loop-again c =
     let e : c .taken .result ≡ taken (b .next-run .result) = c .taken .ensures in (
       search needs,
       rw e (omega arith),
-      rw (e, laid .ensures .0, laid .ensures .1) (put-turn (l .page) (l .at) begins (omega (arith, l .inv .0)) ∙ l .inv .2),
+      rw (e, laid .ensures .0, laid .ensures .1)
+          (put-turn (l .page) (l .at) begins (omega (arith, l .inv .0)) ∙ l .inv .2),
     )
-
-same-length : tie.Need-same-length Inv-loop μ-loop
-same-length c = search needs
 
 returns : tie.Need-returns Inv-loop μ-loop
 returns c =
     let a = c .before .before .before .before .args in
     let l = c .before .loop in
-    put-none (l .page) (l .at) ∙ ap (put (l .page) (l .at)) (sym (stream-past (a .w) (a .entries .now) (l .p) (c .loop-test .left))) ∙ l .inv .2
+    put-none (l .page) (l .at)
+    ∙ ap (put (l .page) (l .at)) (sym (stream-past (a .w) (a .entries .now) (l .p) (c .loop-test .left)))
+    ∙ l .inv .2
 
 pub put-stream-spec : {M : Type 1} → statement M
 put-stream-spec =
     tie.close
     (tie.spec
-    Inv-loop
-    μ-loop
-    loop-holds
-    next-run-requires
-    put-run-requires
-    taken-requires
-    add-p
-    loop-less
-    loop-again
-    same-length
-    returns)
+    Inv-loop μ-loop loop-holds (λ c κs. search needs) put-run-requires taken-requires add-p loop-less
+    loop-again (λ c. search needs) returns)

@@ -6,14 +6,16 @@ use native.Mathlib.Omega.{arith}
 use borrow.Author.Needs.{needs}
 use Rattle.rules.specs.Bits.{bitAt}
 use Rattle.rules.specs.Bits.Order.{lowFirst}
-use Rattle.scan_day.specs.SecondsPassed.{passing, counting, passed, counts, chosenBy, flag-is, stepped-none, stepped-next, stepped-all}
+use Rattle.scan_day.specs.SecondsPassed.{passing, counting, passed, counts, chosenBy, flag-is, stepped-none}
+use Rattle.scan_day.specs.SecondsPassed.{stepped-next, stepped-all}
 use Rattle.scan_day.proofs.passing.page_passed.Statement.{statement}
 use Rattle.scan_day.proofs.passing.page_passed.Tie as tie
 
 abbrev Inv-loop : tie.InvT-loop
 Inv-loop start end bitmap selected₀ answered₀ day₀ second₀ selected answered day second =
     (start ≤ second) × (second - start ≤ end - start) × (day ≡ passed (chosenBy bitmap) start (second - start) day₀)
-    × (selected ≡ counts (chosenBy bitmap) start (second - start) selected₀) × (answered ≡ counts (λ _. true) start (second - start) answered₀)
+    × (selected ≡ counts (chosenBy bitmap) start (second - start) selected₀)
+    × (answered ≡ counts (λ _. true) start (second - start) answered₀)
 
 abbrev μ-loop : tie.MeasureT-loop
 μ-loop start end bitmap selected₀ answered₀ day₀ second₀ selected answered day second = end - second
@@ -29,18 +31,6 @@ loop-holds c =
       stepped-none counting (λ _. true) (a .start) (a .answered .now),
     )
 
-is-set-requires : tie.Need-is-set-requires Inv-loop μ-loop
-is-set-requires c κs = search needs
-
-second-passed-requires : tie.Need-second-passed-requires Inv-loop μ-loop
-second-passed-requires c κs = search needs
-
-add-second : tie.Need-add-second Inv-loop μ-loop
-add-second c = search needs
-
-loop-less : tie.Need-loop-less Inv-loop μ-loop
-loop-less c = search needs
-
 loop-again : tie.Need-loop-again Inv-loop μ-loop
 loop-again c =
     let i = c .before .before .before in
@@ -52,9 +42,12 @@ loop-again c =
     let from = l .loop .inv .0 in (
       omega arith,
       omega arith,
-      stepped-next passing chosen (a .start) (a .before) s (i .is-set .result) (l .loop .day) (c .second-passed .result) from told (l .loop .inv .2) (c .second-passed .ensures .0),
-      stepped-next counting chosen (a .start) (a .selected .now) s (i .is-set .result) _ _ from told (l .loop .inv .3) (c .second-passed .ensures .1 .0),
-      stepped-next counting (λ _. true) (a .start) (a .answered .now) s true _ _ from refl (l .loop .inv .4) (c .second-passed .ensures .1 .1),
+      stepped-next passing chosen (a .start) (a .before) s (i .is-set .result) (l .loop .day)
+          (c .second-passed .result) from told (l .loop .inv .2) (c .second-passed .ensures .0),
+      stepped-next counting chosen (a .start) (a .selected .now) s (i .is-set .result) _ _ from told
+          (l .loop .inv .3) (c .second-passed .ensures .1 .0),
+      stepped-next counting (λ _. true) (a .start) (a .answered .now) s true _ _ from refl (l .loop .inv .4)
+          (c .second-passed .ensures .1 .1),
     )
 
 returns : tie.Need-returns Inv-loop μ-loop
@@ -64,10 +57,13 @@ returns c =
     let chosen = chosenBy (a .bitmap .now) in
     let few = l .loop .inv .1 in
     let past : a .end ≤ l .loop .second = omega arith in (
-      stepped-all passing chosen (a .start) (a .before) (l .loop .second) (a .end) (l .loop .day) few past (l .loop .inv .2),
+      stepped-all passing chosen (a .start) (a .before) (l .loop .second) (a .end) (l .loop .day) few past
+          (l .loop .inv .2),
       (
-        stepped-all counting chosen (a .start) (a .selected .now) (l .loop .second) (a .end) _ few past (l .loop .inv .3),
-        stepped-all counting (λ _. true) (a .start) (a .answered .now) (l .loop .second) (a .end) _ few past (l .loop .inv .4),
+        stepped-all counting chosen (a .start) (a .selected .now) (l .loop .second) (a .end) _ few past
+            (l .loop .inv .3),
+        stepped-all counting (λ _. true) (a .start) (a .answered .now) (l .loop .second) (a .end) _ few past
+            (l .loop .inv .4),
       ),
     )
 
@@ -75,12 +71,5 @@ pub page-passed-spec : {M : Type 1} → statement M
 page-passed-spec =
     tie.close
     (tie.spec
-    Inv-loop
-    μ-loop
-    loop-holds
-    is-set-requires
-    second-passed-requires
-    add-second
-    loop-less
-    loop-again
-    returns)
+    Inv-loop μ-loop loop-holds (λ c κs. search needs) (λ c κs. search needs) (λ c. search needs)
+    (λ c. search needs) loop-again returns)

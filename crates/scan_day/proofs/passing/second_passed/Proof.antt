@@ -7,50 +7,24 @@ use Rattle.scan_day.specs.SecondsPassed.{selecting}
 use Rattle.scan_day.proofs.passing.second_passed.Statement.{statement}
 use Rattle.scan_day.proofs.passing.second_passed.Tie as tie
 
-counted-requires : tie.Need-counted-requires
-counted-requires c κs = search needs
-
-reads-requires : tie.Need-reads-requires
-reads-requires c κs = search needs
-
 returns : tie.Need-returns
 returns c =
     let a = c .before .before .before .before .args in
     let no : a .is-selected ≡ false = not-true (a .is-selected) (c .if1 .taken) in
     (rw no (c .before .reads .ensures), (rw no, c .before .before .counted .ensures))
 
-counted-requires-2 : tie.Need-counted-requires-2
-counted-requires-2 c κs = search needs
-
-new-requires : tie.Need-new-requires
-new-requires c κs = search needs
-
-number-requires : tie.Need-number-requires
-number-requires c κs = search needs
-
-end-requires : tie.Need-end-requires
-end-requires c κs = search needs
-
-selects-requires : tie.Need-selects-requires
-selects-requires c κs = search needs
-
 returns-2 : tie.Need-returns-2
 returns-2 c =
     let e = c .before .before .before .before in
     let a = e .before .before .before .before .args in
-    let yes : a .is-selected ≡ true = not-false (a .is-selected) (e .if1 .left) in
-    (rw yes (c .selects .ensures ∙ ap (selecting (a .second)) (e .before .reads .ensures)), (rw yes (c .before .before .counted2 .ensures), e .before .before .counted .ensures))
+    let yes : a .is-selected ≡ true = not-false (a .is-selected) (e .if1 .left) in (
+      rw yes (c .selects .ensures ∙ ap (selecting (a .second)) (e .before .reads .ensures)),
+      (rw yes (c .before .before .counted2 .ensures), e .before .before .counted .ensures),
+    )
 
 pub second-passed-spec : {M : Type 1} → statement M
 second-passed-spec =
     tie.close
     (tie.spec
-    counted-requires
-    reads-requires
-    returns
-    counted-requires-2
-    new-requires
-    number-requires
-    end-requires
-    selects-requires
-    returns-2)
+    (λ c κs. search needs) (λ c κs. search needs) returns (λ c κs. search needs) (λ c κs. search needs)
+    (λ c κs. search needs) (λ c κs. search needs) (λ c κs. search needs) returns-2)

@@ -11,20 +11,23 @@ returns : tie.Need-returns
 unfolding byThirds
 returns c = let a = c .before .args in rw (le-leb (a .selected) (a .seconds / 3) (omega arith))
 
-mul-if2 : tie.Need-mul-if2
-mul-if2 c = search needs
-
 returns-2 : tie.Need-returns-2
 unfolding byThirds
 returns-2 c =
     let a = c .before .before .args in
-    rw (lt-leb (a .selected) (a .seconds / 3) (omega arith), le-leb (a .selected) (2 * (a .seconds / 3)) (omega arith))
+    rw (
+      lt-leb (a .selected) (a .seconds / 3) (omega arith),
+      le-leb (a .selected) (2 * (a .seconds / 3)) (omega arith),
+    )
 
 returns-3 : tie.Need-returns-3
 unfolding byThirds
 returns-3 c =
     let a = c .before .before .args in
-    rw (lt-leb (a .selected) (a .seconds / 3) (omega arith), lt-leb (a .selected) (2 * (a .seconds / 3)) (omega arith))
+    rw (
+      lt-leb (a .selected) (a .seconds / 3) (omega arith),
+      lt-leb (a .selected) (2 * (a .seconds / 3)) (omega arith),
+    )
 
 pub by-thirds-spec : {M : Type 1} → statement M
-by-thirds-spec = tie.close (tie.spec returns mul-if2 returns-2 returns-3)
+by-thirds-spec = tie.close (tie.spec returns (λ c. search needs) returns-2 returns-3)

@@ -20,16 +20,21 @@ returns-3 : tie.Need-returns-3
 unfolding cellOf
 returns-3 c =
     let a = c .before .before .before .args in
-    rw (le-ltb (a .answered) (a .seconds) (omega arith), ne-eqb (a .selected) 0 (omega arith), le-leb (a .seconds) (a .selected) (omega arith))
-
-by-thirds-requires : tie.Need-by-thirds-requires
-by-thirds-requires c κs = search needs
+    rw (
+      le-ltb (a .answered) (a .seconds) (omega arith),
+      ne-eqb (a .selected) 0 (omega arith),
+      le-leb (a .seconds) (a .selected) (omega arith),
+    )
 
 returns-4 : tie.Need-returns-4
 unfolding cellOf
 returns-4 c =
     let a = c .before .before .before .before .args in
-    rw (le-ltb (a .answered) (a .seconds) (omega arith), ne-eqb (a .selected) 0 (omega arith), lt-leb (a .seconds) (a .selected) (omega arith)) (c .by-thirds .ensures)
+    rw (
+      le-ltb (a .answered) (a .seconds) (omega arith),
+      ne-eqb (a .selected) 0 (omega arith),
+      lt-leb (a .seconds) (a .selected) (omega arith),
+    ) (c .by-thirds .ensures)
 
 pub drawn-cell-spec : {M : Type 1} → statement M
-drawn-cell-spec = tie.close (tie.spec returns returns-2 returns-3 by-thirds-requires returns-4)
+drawn-cell-spec = tie.close (tie.spec returns returns-2 returns-3 (λ c κs. search needs) returns-4)

@@ -1,4 +1,5 @@
--- `scan_page::answering::answered` meets its contract: a refusal keeps the bitmap, and what was accepted are the bytes that were read.
+-- `scan_page::answering::answered` meets its contract: a refusal keeps the bitmap, and what was accepted are the
+-- bytes that were read.
 use mathlib.Core.Logic.{⊎-elim}
 use mathlib.Core.Path.{_≡_}
 use Prim.Native.Nat.{_%_}
@@ -10,44 +11,16 @@ use Rattle.scan_page.specs.Answered.{all-in-words, scan-keeps}
 use Rattle.scan_page.proofs.answering.answered.Statement.{statement}
 use Rattle.scan_page.proofs.answering.answered.Tie as tie
 
-slice-aggregate-read : tie.Need-slice-aggregate-read
-slice-aggregate-read c = search needs
-
-read-requires : tie.Need-read-requires
-read-requires c κs = search needs
-
-returns : tie.Need-returns
-returns c = search needs
-
-tell-requires : tie.Need-tell-requires
-tell-requires c κs = search needs
-
 returns-2 : tie.Need-returns-2
 returns-2 c = rw (c .tell .ensures)
-
-array-share-prefix-page : tie.Need-array-share-prefix-page
-array-share-prefix-page c = search needs
-
-slice-aggregate-scan : tie.Need-slice-aggregate-scan
-slice-aggregate-scan c = search needs
-
-scan-requires : tie.Need-scan-requires
-scan-requires c κs = search needs
-
-tell-requires-2 : tie.Need-tell-requires-2
-tell-requires-2 c κs = search needs
-
-same-length : tie.Need-same-length
-same-length c = search needs
 
 returns-3 : tie.Need-returns-3
 returns-3 c =
     let s = c .before .before .before .before .before in
     let a = s .before .before .before .before .before .before .before .before .before .before .before .before .args in
-    rw (c .tell2 .ensures) (scan-keeps (a .q) (a .dictionary .now) _ (a .n) (a .bitmap .now) (s .scan .result) _ (s .scan .ensures) (c .before .if4 .taken))
-
-same-length-2 : tie.Need-same-length-2
-same-length-2 c = search needs
+    rw (c .tell2 .ensures)
+    (scan-keeps (a .q) (a .dictionary .now) _ (a .n) (a .bitmap .now) (s .scan .result) _ (s .scan .ensures)
+    (c .before .if4 .taken))
 
 returns-4 : tie.Need-returns-4
 returns-4 c =
@@ -59,7 +32,8 @@ returns-4 c =
       page = take (f .result .bytes) (f .last .1 .0);
       count = s .scan .result .number;
       whole = λ planes. all-in-words _ (omega (arith, f .ensures .0))
-          (⊎-elim (λ w. omega (arith, eqb-true (f .result .bytes % 8) 0 (not-false _ (w .1 .left)))) (λ w. absurd (w .left planes)) (s .before .before .before .if2 .came));
+          (⊎-elim (λ w. omega (arith, eqb-true (f .result .bytes % 8) 0 (not-false _ (w .1 .left))))
+          (λ w. absurd (w .left planes)) (s .before .before .before .if2 .came));
       scan = rw (c .if4 .left) at (s .scan .ensures);
     }
 
@@ -67,16 +41,6 @@ pub answered-spec : {M : Type 1} → statement M
 answered-spec =
     tie.close
     (tie.spec
-    slice-aggregate-read
-    read-requires
-    returns
-    tell-requires
-    returns-2
-    array-share-prefix-page
-    slice-aggregate-scan
-    scan-requires
-    tell-requires-2
-    same-length
-    returns-3
-    same-length-2
-    returns-4)
+    (λ c. search needs) (λ c κs. search needs) (λ c. search needs) (λ c κs. search needs) returns-2
+    (λ c. search needs) (λ c. search needs) (λ c κs. search needs) (λ c κs. search needs)
+    (λ c. search needs) returns-3 (λ c. search needs) returns-4)

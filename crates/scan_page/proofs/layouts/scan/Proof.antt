@@ -10,24 +10,6 @@ use Rattle.scan_page.specs.Layouts.{scanOf}
 use Rattle.scan_page.proofs.layouts.scan.Statement.{statement}
 use Rattle.scan_page.proofs.layouts.scan.Tie as tie
 
-scan-requires : tie.Need-scan-requires
-scan-requires c κs = search needs
-
-scan-planes-requires : tie.Need-scan-planes-requires
-scan-planes-requires c κs = search needs
-
-scan-requires-2 : tie.Need-scan-requires-2
-scan-requires-2 c κs = search needs
-
-scan-requires-3 : tie.Need-scan-requires-3
-scan-requires-3 c κs = search needs
-
-scan-requires-4 : tie.Need-scan-requires-4
-scan-requires-4 c κs = search needs
-
-same-length : tie.Need-same-length
-same-length c = search needs
-
 returns : tie.Need-returns
 unfolding scanOf
 returns c =
@@ -37,17 +19,12 @@ returns c =
     let b : toZ w64 (ofZ w64 (q .b)) ≡ q .b = toZ-ofZ w64 (q .b) (record { sfits = fits .1 .0 .1 }) in
     rw (eq-eqb (q .layout) 0 (omega arith)) (rw (a, b) at (c .before .before .scan .ensures))
 
-same-length-2 : tie.Need-same-length-2
-same-length-2 c = search needs
-
 returns-2 : tie.Need-returns-2
 unfolding scanOf
 returns-2 c =
     let q = c .before .before .before .before .before .before .before .before .args .q in
-    rw (ne-eqb (q .layout) 0 (omega arith), eq-eqb (q .layout) 1 (omega arith)) (c .before .before .scan-planes .ensures)
-
-same-length-3 : tie.Need-same-length-3
-same-length-3 c = search needs
+    rw (ne-eqb (q .layout) 0 (omega arith), eq-eqb (q .layout) 1 (omega arith))
+    (c .before .before .scan-planes .ensures)
 
 returns-3 : tie.Need-returns-3
 unfolding scanOf
@@ -56,10 +33,8 @@ returns-3 c =
     let fits = c .before .before .before .struct-told4 .given .1 .1 .1 in
     let a : toZ w64 (ofZ w64 (q .a)) ≡ q .a = toZ-ofZ w64 (q .a) (record { sfits = fits .0 .1 }) in
     let b : toZ w64 (ofZ w64 (q .b)) ≡ q .b = toZ-ofZ w64 (q .b) (record { sfits = fits .1 .0 .1 }) in
-    rw (ne-eqb (q .layout) 0 (omega arith), ne-eqb (q .layout) 1 (omega arith), eq-eqb (q .layout) 2 (omega arith)) (rw (a, b) at (c .before .before .scan2 .ensures))
-
-same-length-4 : tie.Need-same-length-4
-same-length-4 c = search needs
+    rw (ne-eqb (q .layout) 0 (omega arith), ne-eqb (q .layout) 1 (omega arith), eq-eqb (q .layout) 2 (omega arith))
+    (rw (a, b) at (c .before .before .scan2 .ensures))
 
 returns-4 : tie.Need-returns-4
 unfolding scanOf
@@ -68,10 +43,12 @@ returns-4 c =
     let fits = c .before .before .before .struct-told6 .given .1 .1 .1 in
     let a : toZ w64 (ofZ w64 (q .a)) ≡ q .a = toZ-ofZ w64 (q .a) (record { sfits = fits .0 .1 }) in
     let b : toZ w64 (ofZ w64 (q .b)) ≡ q .b = toZ-ofZ w64 (q .b) (record { sfits = fits .1 .0 .1 }) in
-    rw (ne-eqb (q .layout) 0 (omega arith), ne-eqb (q .layout) 1 (omega arith), ne-eqb (q .layout) 2 (omega arith), eq-eqb (q .layout) 3 (omega arith)) (rw (a, b) at (c .before .before .scan3 .ensures))
-
-same-length-5 : tie.Need-same-length-5
-same-length-5 c = search needs
+    rw (
+      ne-eqb (q .layout) 0 (omega arith),
+      ne-eqb (q .layout) 1 (omega arith),
+      ne-eqb (q .layout) 2 (omega arith),
+      eq-eqb (q .layout) 3 (omega arith),
+    ) (rw (a, b) at (c .before .before .scan3 .ensures))
 
 returns-5 : tie.Need-returns-5
 unfolding scanOf
@@ -80,24 +57,17 @@ returns-5 c =
     let fits = c .before .before .before .struct-told8 .given .1 .1 .1 in
     let a : toZ w64 (ofZ w64 (q .a)) ≡ q .a = toZ-ofZ w64 (q .a) (record { sfits = fits .0 .1 }) in
     let b : toZ w64 (ofZ w64 (q .b)) ≡ q .b = toZ-ofZ w64 (q .b) (record { sfits = fits .1 .0 .1 }) in
-    rw (ne-eqb (q .layout) 0 (omega arith), ne-eqb (q .layout) 1 (omega arith), ne-eqb (q .layout) 2 (omega arith), ne-eqb (q .layout) 3 (omega arith)) (rw (a, b) at (c .before .before .scan4 .ensures))
+    rw (
+      ne-eqb (q .layout) 0 (omega arith),
+      ne-eqb (q .layout) 1 (omega arith),
+      ne-eqb (q .layout) 2 (omega arith),
+      ne-eqb (q .layout) 3 (omega arith),
+    ) (rw (a, b) at (c .before .before .scan4 .ensures))
 
 pub scan-spec : {M : Type 1} → statement M
 scan-spec =
     tie.close
     (tie.spec
-    scan-requires
-    scan-planes-requires
-    scan-requires-2
-    scan-requires-3
-    scan-requires-4
-    same-length
-    returns
-    same-length-2
-    returns-2
-    same-length-3
-    returns-3
-    same-length-4
-    returns-4
-    same-length-5
-    returns-5)
+    (λ c κs. search needs) (λ c κs. search needs) (λ c κs. search needs) (λ c κs. search needs)
+    (λ c κs. search needs) (λ c. search needs) returns (λ c. search needs) returns-2 (λ c. search needs)
+    returns-3 (λ c. search needs) returns-4 (λ c. search needs) returns-5)

@@ -11,27 +11,6 @@ use Rattle.scan_page.specs.Layouts.{front-words}
 use Rattle.scan_page.proofs.layouts.scan_planes.Statement.{statement}
 use Rattle.scan_page.proofs.layouts.scan_planes.Tie as tie
 
-slice-aggregate-words-of : tie.Need-slice-aggregate-words-of
-slice-aggregate-words-of c = search needs
-
-words-of-requires : tie.Need-words-of-requires
-words-of-requires c κs = search needs
-
-sub-scan : tie.Need-sub-scan
-sub-scan c = search needs
-
-part-scan-start : tie.Need-part-scan-start
-part-scan-start c = search needs
-
-part-scan-end : tie.Need-part-scan-end
-part-scan-end c = search needs
-
-scan-requires : tie.Need-scan-requires
-scan-requires c κs = search needs
-
-same-length : tie.Need-same-length
-same-length c = search needs
-
 returns : tie.Need-returns
 returns c =
     let t = c .before .before .before in
@@ -50,11 +29,5 @@ pub scan-planes-spec : {M : Type 1} → statement M
 scan-planes-spec =
     tie.close
     (tie.spec
-    slice-aggregate-words-of
-    words-of-requires
-    sub-scan
-    part-scan-start
-    part-scan-end
-    scan-requires
-    same-length
-    returns)
+    (λ c. search needs) (λ c κs. search needs) (λ c. search needs) (λ c. search needs) (λ c. search needs)
+    (λ c κs. search needs) (λ c. search needs) returns)

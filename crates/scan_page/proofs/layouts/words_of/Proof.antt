@@ -12,36 +12,22 @@ use Rattle.scan_page.proofs.layouts.words_of.Statement.{statement}
 use Rattle.scan_page.proofs.layouts.words_of.Tie as tie
 
 abbrev Inv-loop : tie.InvT-loop
-Inv-loop page words₀ all k₀ words k = (8 * all ≤ length page) × (all ≤ length words₀) × (length words ≡ length words₀) × (k ≤ all) × (words ≡ put words₀ 0 (tabulate k (wordAt page)))
+Inv-loop page words₀ all k₀ words k =
+    (8 * all ≤ length page) × (all ≤ length words₀) × (length words ≡ length words₀) × (k ≤ all)
+    × (words ≡ put words₀ 0 (tabulate k (wordAt page)))
 
 abbrev μ-loop : tie.MeasureT-loop
 μ-loop page words₀ all k₀ words k = all - k
 
-min-requires : tie.Need-min-requires Inv-loop μ-loop
-min-requires c κs = search needs
-
 loop-holds : tie.Need-loop-holds Inv-loop μ-loop
 loop-holds c =
-    let s = c .before .before .before in
-    (search needs, search needs, search needs, search needs, tabulate-none (s .args .words .now) 0 (wordAt (s .args .page .now)))
-
-mul-load-any : tie.Need-mul-load-any Inv-loop μ-loop
-mul-load-any c = search needs
-
-load-any-requires : tie.Need-load-any-requires Inv-loop μ-loop
-load-any-requires c κs = search needs
-
-mul-words : tie.Need-mul-words Inv-loop μ-loop
-mul-words c = search needs
-
-slice-write-words : tie.Need-slice-write-words Inv-loop μ-loop
-slice-write-words c = search needs
-
-add-k : tie.Need-add-k Inv-loop μ-loop
-add-k c = search needs
-
-loop-less : tie.Need-loop-less Inv-loop μ-loop
-loop-less c = search needs
+    let s = c .before .before .before in (
+      search needs,
+      search needs,
+      search needs,
+      search needs,
+      tabulate-none (s .args .words .now) 0 (wordAt (s .args .page .now)),
+    )
 
 loop-again : tie.Need-loop-again Inv-loop μ-loop
 loop-again c =
@@ -53,33 +39,24 @@ loop-again c =
       search needs,
       search needs,
       search needs,
-      ap₂ (λ (words : List ℕ) (x : ℕ). set words k x) (l .loop .inv .4) (c .load-any .ensures) ∙ put-tabulate (s .args .words .now) k (wordAt page) (omega arith),
+      ap₂ (λ (words : List ℕ) (x : ℕ). set words k x) (l .loop .inv .4) (c .load-any .ensures)
+          ∙ put-tabulate (s .args .words .now) k (wordAt page) (omega arith),
     )
-
-same-length : tie.Need-same-length Inv-loop μ-loop
-same-length c = search needs
 
 returns : tie.Need-returns Inv-loop μ-loop
 returns c =
     let l = c .before in
     let s = l .before .before .before .before in
-    let all : l .loop .k ≡ l .before .min .result = omega arith in
-    (search needs, l .loop .inv .4 ∙ ap (λ (k : ℕ). put (s .args .words .now) 0 (tabulate k (wordAt (s .args .page .now)))) all)
+    let all : l .loop .k ≡ l .before .min .result = omega arith in (
+      search needs,
+      l .loop .inv .4
+          ∙ ap (λ (k : ℕ). put (s .args .words .now) 0 (tabulate k (wordAt (s .args .page .now)))) all,
+    )
 
 pub words-of-spec : {M : Type 1} → statement M
 words-of-spec =
     tie.close
     (tie.spec
-    Inv-loop
-    μ-loop
-    min-requires
-    loop-holds
-    mul-load-any
-    load-any-requires
-    mul-words
-    slice-write-words
-    add-k
-    loop-less
-    loop-again
-    same-length
-    returns)
+    Inv-loop μ-loop (λ c κs. search needs) loop-holds (λ c. search needs) (λ c κs. search needs)
+    (λ c. search needs) (λ c. search needs) (λ c. search needs) (λ c. search needs) loop-again
+    (λ c. search needs) returns)

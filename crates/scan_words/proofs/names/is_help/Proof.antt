@@ -7,15 +7,9 @@ use Rattle.scan_words.specs.Names.{helps}
 use Rattle.scan_words.proofs.names.is_help.Statement.{statement}
 use Rattle.scan_words.proofs.names.is_help.Tie as tie
 
-slice-aggregate-place-in : tie.Need-slice-aggregate-place-in
-slice-aggregate-place-in c = search needs
-
-place-in-requires : tie.Need-place-in-requires
-place-in-requires c κs = search needs
-
 returns : tie.Need-returns
 unfolding ascii helps
 returns c = ap (λ k. ltb k 3) (c .place-in .ensures)
 
 pub is-help-spec : {M : Type 1} → statement M
-is-help-spec = tie.close (tie.spec slice-aggregate-place-in place-in-requires returns)
+is-help-spec = tie.close (tie.spec (λ c. search needs) (λ c κs. search needs) returns)

@@ -11,12 +11,6 @@ returns : tie.Need-returns
 unfolding dashed
 returns c = rw (lt-ltb (length (c .before .args .word .now)) 2 (c .if1 .taken))
 
-shared-slice-read-if2 : tie.Need-shared-slice-read-if2
-shared-slice-read-if2 c = search needs
-
-shared-slice-read-result : tie.Need-shared-slice-read-result
-shared-slice-read-result c = search needs
-
 returns-2 : tie.Need-returns-2
 unfolding dashed
 returns-2 c =
@@ -30,5 +24,4 @@ returns-3 c =
     rw (le-ltb (length word) 2 (omega arith), ne-eqb (getD word 0 0) 45 (c .if2 .left))
 
 pub is-option-spec : {M : Type 1} → statement M
-is-option-spec =
-    tie.close (tie.spec returns shared-slice-read-if2 shared-slice-read-result returns-2 returns-3)
+is-option-spec = tie.close (tie.spec returns (λ c. search needs) (λ c. search needs) returns-2 returns-3)

@@ -5,15 +5,9 @@ use Rattle.scan_words.specs.Names.{layouts}
 use Rattle.scan_words.proofs.names.layout.Statement.{statement}
 use Rattle.scan_words.proofs.names.layout.Tie as tie
 
-slice-aggregate-place-in : tie.Need-slice-aggregate-place-in
-slice-aggregate-place-in c = search needs
-
-place-in-requires : tie.Need-place-in-requires
-place-in-requires c κs = search needs
-
 returns : tie.Need-returns
 unfolding ascii layouts
 returns c = c .place-in .ensures
 
 pub layout-spec : {M : Type 1} → statement M
-layout-spec = tie.close (tie.spec slice-aggregate-place-in place-in-requires returns)
+layout-spec = tie.close (tie.spec (λ c. search needs) (λ c κs. search needs) returns)

@@ -11,9 +11,6 @@ returns : tie.Need-returns
 unfolding operatorNumber
 returns c = rw (ne-eqb (length (c .before .args .word .now)) 1 (c .if1 .taken))
 
-shared-slice-read-digit : tie.Need-shared-slice-read-digit
-shared-slice-read-digit c = search needs
-
 returns-2 : tie.Need-returns-2
 unfolding operatorNumber
 returns-2 c =
@@ -24,17 +21,22 @@ returns-3 : tie.Need-returns-3
 unfolding operatorNumber
 returns-3 c =
     let word = c .before .before .before .before .args .word .now in
-    rw (eq-eqb (length word) 1 (omega arith), le-ltb (getD word 0 0) 48 (omega arith), lt-ltb 55 (getD word 0 0) (omega arith))
-
-cast-result : tie.Need-cast-result
-cast-result c = search needs
+    rw (
+      eq-eqb (length word) 1 (omega arith),
+      le-ltb (getD word 0 0) 48 (omega arith),
+      lt-ltb 55 (getD word 0 0) (omega arith),
+    )
 
 returns-4 : tie.Need-returns-4
 unfolding operatorNumber
 returns-4 c =
     let word = c .before .before .before .before .args .word .now in
-    rw (eq-eqb (length word) 1 (omega arith), le-ltb (getD word 0 0) 48 (omega arith), le-ltb 55 (getD word 0 0) (omega arith))
+    rw (
+      eq-eqb (length word) 1 (omega arith),
+      le-ltb (getD word 0 0) 48 (omega arith),
+      le-ltb 55 (getD word 0 0) (omega arith),
+    )
 
 pub operator-number-spec : {M : Type 1} → statement M
 operator-number-spec =
-    tie.close (tie.spec returns shared-slice-read-digit returns-2 returns-3 cast-result returns-4)
+    tie.close (tie.spec returns (λ c. search needs) returns-2 returns-3 (λ c. search needs) returns-4)

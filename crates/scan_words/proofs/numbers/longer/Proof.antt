@@ -20,23 +20,24 @@ returns-3 : tie.Need-returns-3
 unfolding further
 returns-3 c =
     let s = c .before .before .before in
-    rw (le-ltb 922337203685477580 (s .args .m) (omega arith), le-leb 48 (s .args .digit) (omega arith), lt-leb (s .args .digit) 57 (omega arith))
-
-mul-result : tie.Need-mul-result
-mul-result c = search needs
-
-cast-result : tie.Need-cast-result
-cast-result c = search needs
-
-add-result : tie.Need-add-result
-add-result c = search needs
+    rw (
+      le-ltb 922337203685477580 (s .args .m) (omega arith),
+      le-leb 48 (s .args .digit) (omega arith),
+      lt-leb (s .args .digit) 57 (omega arith),
+    )
 
 returns-4 : tie.Need-returns-4
 unfolding further
 returns-4 c =
     let s = c .before .before .before in
-    rw (le-ltb 922337203685477580 (s .args .m) (omega arith), le-leb 48 (s .args .digit) (omega arith), le-leb (s .args .digit) 57 (omega arith))
+    rw (
+      le-ltb 922337203685477580 (s .args .m) (omega arith),
+      le-leb 48 (s .args .digit) (omega arith),
+      le-leb (s .args .digit) 57 (omega arith),
+    )
 
 pub longer-spec : {M : Type 1} → statement M
 longer-spec =
-    tie.close (tie.spec returns returns-2 returns-3 mul-result cast-result add-result returns-4)
+    tie.close
+    (tie.spec
+    returns returns-2 returns-3 (λ c. search needs) (λ c. search needs) (λ c. search needs) returns-4)

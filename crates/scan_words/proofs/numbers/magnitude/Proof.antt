@@ -11,7 +11,8 @@ use Rattle.scan_words.proofs.numbers.magnitude.Statement.{statement}
 use Rattle.scan_words.proofs.numbers.magnitude.Tie as tie
 
 abbrev Inv-loop : tie.InvT-loop
-Inv-loop word from m₀ i₀ m i = (i ≤ length word) × (capped (some m) ≡ m) × (capped (onward m (drop i word)) ≡ capped (spelled (drop from word)))
+Inv-loop word from m₀ i₀ m i =
+    (i ≤ length word) × (capped (some m) ≡ m) × (capped (onward m (drop i word)) ≡ capped (spelled (drop from word)))
 
 abbrev μ-loop : tie.MeasureT-loop
 μ-loop word from m₀ i₀ m i = length word - i
@@ -20,19 +21,8 @@ returns : tie.Need-returns Inv-loop μ-loop
 returns c = missing (c .before .before .args .word .now) (c .before .before .args .from) (omega arith)
 
 loop-holds : tie.Need-loop-holds Inv-loop μ-loop
-loop-holds c = (search needs, refl, begun (c .before .before .args .word .now) (c .before .before .args .from) (omega arith))
-
-shared-slice-read-longer : tie.Need-shared-slice-read-longer Inv-loop μ-loop
-shared-slice-read-longer c = search needs
-
-longer-requires : tie.Need-longer-requires Inv-loop μ-loop
-longer-requires c κs = search needs
-
-add-i : tie.Need-add-i Inv-loop μ-loop
-add-i c = search needs
-
-loop-less : tie.Need-loop-less Inv-loop μ-loop
-loop-less c = search needs
+loop-holds c =
+    (search needs, refl, begun (c .before .before .args .word .now) (c .before .before .args .from) (omega arith))
 
 loop-again : tie.Need-loop-again Inv-loop μ-loop
 loop-again c =
@@ -41,7 +31,8 @@ loop-again c =
     let word = s .args .word .now in (
       omega arith,
       rw (c .longer .ensures) (kept (l .loop .m) (getD word (l .loop .i) 0)),
-      next word (drop (s .args .from) word) (l .loop .m) (l .loop .i) (c .longer .result) (omega arith) (c .longer .ensures) (l .loop .inv .2),
+      next word (drop (s .args .from) word) (l .loop .m) (l .loop .i) (c .longer .result) (omega arith)
+          (c .longer .ensures) (l .loop .inv .2),
     )
 
 returns-2 : tie.Need-returns-2 Inv-loop μ-loop
@@ -55,13 +46,5 @@ pub magnitude-spec : {M : Type 1} → statement M
 magnitude-spec =
     tie.close
     (tie.spec
-    Inv-loop
-    μ-loop
-    returns
-    loop-holds
-    shared-slice-read-longer
-    longer-requires
-    add-i
-    loop-less
-    loop-again
-    returns-2)
+    Inv-loop μ-loop returns loop-holds (λ c. search needs) (λ c κs. search needs) (λ c. search needs)
+    (λ c. search needs) loop-again returns-2)

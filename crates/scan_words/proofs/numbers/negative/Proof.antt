@@ -17,24 +17,10 @@ returns : tie.Need-returns
 unfolding below
 returns c = rw (eq-eqb (c .before .args .m) 0 (c .if1 .taken))
 
-sub-if2 : tie.Need-sub-if2
-sub-if2 c = search needs
-
 returns-2 : tie.Need-returns-2
 unfolding below
-returns-2 c = let m = c .before .before .args .m in rw (ne-eqb m 0 (omega arith), le-ltb (m - 1) (2 ^ 63) (omega arith))
-
-sub-unzig : tie.Need-sub-unzig
-sub-unzig c = search needs
-
-mul-unzig : tie.Need-mul-unzig
-mul-unzig c = search needs
-
-add-unzig : tie.Need-add-unzig
-add-unzig c = search needs
-
-unzig-requires : tie.Need-unzig-requires
-unzig-requires c κs = search needs
+returns-2 c =
+    let m = c .before .before .args .m in rw (ne-eqb m 0 (omega arith), le-ltb (m - 1) (2 ^ 63) (omega arith))
 
 returns-3 : tie.Need-returns-3
 unfolding below zigzagOf
@@ -46,4 +32,6 @@ returns-3 c =
 pub negative-spec : {M : Type 1} → statement M
 negative-spec =
     tie.close
-    (tie.spec returns sub-if2 returns-2 sub-unzig mul-unzig add-unzig unzig-requires returns-3)
+    (tie.spec
+    returns (λ c. search needs) returns-2 (λ c. search needs) (λ c. search needs) (λ c. search needs)
+    (λ c κs. search needs) returns-3)

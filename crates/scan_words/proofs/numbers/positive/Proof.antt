@@ -11,12 +11,9 @@ returns : tie.Need-returns
 unfolding atMost
 returns c = rw (le-ltb (c .before .args .m) (2 ^ 63) (omega arith))
 
-cast-t3 : tie.Need-cast-t3
-cast-t3 c = search needs
-
 returns-2 : tie.Need-returns-2
 unfolding atMost
 returns-2 c = rw (lt-ltb (c .before .args .m) (2 ^ 63) (omega arith))
 
 pub positive-spec : {M : Type 1} → statement M
-positive-spec = tie.close (tie.spec returns cast-t3 returns-2)
+positive-spec = tie.close (tie.spec returns (λ c. search needs) returns-2)

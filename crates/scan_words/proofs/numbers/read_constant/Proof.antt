@@ -13,15 +13,6 @@ returns : tie.Need-returns
 unfolding constantOf
 returns c = rw (eq-eqb (length (c .before .before .args .word .now)) 0 (omega arith))
 
-shared-slice-read-if2 : tie.Need-shared-slice-read-if2
-shared-slice-read-if2 c = search needs
-
-magnitude-requires : tie.Need-magnitude-requires
-magnitude-requires c κs = search needs
-
-negative-requires : tie.Need-negative-requires
-negative-requires c κs = search needs
-
 returns-2 : tie.Need-returns-2
 unfolding constantOf
 returns-2 c =
@@ -30,50 +21,34 @@ returns-2 c =
     rw (ne-eqb (length word) 0 (omega arith), eq-eqb (getD word 0 0) 45 (omega arith))
     (c .negative .ensures ∙ fit-below (m .result) (spelled (drop 1 word)) (m .ensures))
 
-shared-slice-read-if3 : tie.Need-shared-slice-read-if3
-shared-slice-read-if3 c = search needs
-
-magnitude-requires-2 : tie.Need-magnitude-requires-2
-magnitude-requires-2 c κs = search needs
-
-positive-requires : tie.Need-positive-requires
-positive-requires c κs = search needs
-
 returns-3 : tie.Need-returns-3
 unfolding constantOf
 returns-3 c =
     let word = c .before .before .before .before .before .before .before .before .args .word .now in
     let m = c .before .magnitude2 in
-    rw (ne-eqb (length word) 0 (omega arith), ne-eqb (getD word 0 0) 45 (omega arith), eq-eqb (getD word 0 0) 43 (omega arith))
+    rw (
+      ne-eqb (length word) 0 (omega arith),
+      ne-eqb (getD word 0 0) 45 (omega arith),
+      eq-eqb (getD word 0 0) 43 (omega arith),
+    )
     (c .positive .ensures ∙ fit-above (m .result) (spelled (drop 1 word)) (m .ensures))
-
-magnitude-requires-3 : tie.Need-magnitude-requires-3
-magnitude-requires-3 c κs = search needs
-
-positive-requires-2 : tie.Need-positive-requires-2
-positive-requires-2 c κs = search needs
 
 returns-4 : tie.Need-returns-4
 unfolding constantOf
 returns-4 c =
     let word = c .before .before .before .before .before .before .before .before .args .word .now in
     let m = c .before .magnitude3 in
-    rw (ne-eqb (length word) 0 (omega arith), ne-eqb (getD word 0 0) 45 (omega arith), ne-eqb (getD word 0 0) 43 (omega arith))
+    rw (
+      ne-eqb (length word) 0 (omega arith),
+      ne-eqb (getD word 0 0) 45 (omega arith),
+      ne-eqb (getD word 0 0) 43 (omega arith),
+    )
     (c .positive2 .ensures ∙ fit-above (m .result) (spelled word) (m .ensures))
 
 pub read-constant-spec : {M : Type 1} → statement M
 read-constant-spec =
     tie.close
     (tie.spec
-    returns
-    shared-slice-read-if2
-    magnitude-requires
-    negative-requires
-    returns-2
-    shared-slice-read-if3
-    magnitude-requires-2
-    positive-requires
-    returns-3
-    magnitude-requires-3
-    positive-requires-2
+    returns (λ c. search needs) (λ c κs. search needs) (λ c κs. search needs) returns-2 (λ c. search needs)
+    (λ c κs. search needs) (λ c κs. search needs) returns-3 (λ c κs. search needs) (λ c κs. search needs)
     returns-4)

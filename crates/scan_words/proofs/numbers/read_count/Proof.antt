@@ -6,19 +6,19 @@ use Rattle.scan_words.specs.DigitByDigit.{count-is, count-none}
 use Rattle.scan_words.proofs.numbers.read_count.Statement.{statement}
 use Rattle.scan_words.proofs.numbers.read_count.Tie as tie
 
-magnitude-requires : tie.Need-magnitude-requires
-magnitude-requires c κs = search needs
-
-cast-t4 : tie.Need-cast-t4
-cast-t4 c = search needs
-
 returns : tie.Need-returns
 unfolding countOf
-returns c = let m = c .before in count-is (m .magnitude .result) (spelled (m .before .before .args .word .now)) (m .magnitude .ensures) (omega arith)
+returns c =
+    let m = c .before in
+    count-is (m .magnitude .result) (spelled (m .before .before .args .word .now)) (m .magnitude .ensures)
+    (omega arith)
 
 returns-2 : tie.Need-returns-2
 unfolding countOf
-returns-2 c = let m = c .before in count-none (m .magnitude .result) (spelled (m .before .before .args .word .now)) (m .magnitude .ensures) (omega arith)
+returns-2 c =
+    let m = c .before in
+    count-none (m .magnitude .result) (spelled (m .before .before .args .word .now)) (m .magnitude .ensures)
+    (omega arith)
 
 pub read-count-spec : {M : Type 1} → statement M
-read-count-spec = tie.close (tie.spec magnitude-requires cast-t4 returns returns-2)
+read-count-spec = tie.close (tie.spec (λ c κs. search needs) (λ c. search needs) returns returns-2)

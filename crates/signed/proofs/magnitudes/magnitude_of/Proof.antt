@@ -18,7 +18,8 @@ sub-result c = turned-fits w64 (c .before .args .z) (c .before .fits .z) (c .if1
 cast-result : tie.Need-cast-result
 cast-result c =
     let z = c .before .args .z in
-    rw (turned-is w64 z (c .before .fits .z) (c .if1 .taken)) (tt, record { fits = omega (arith, c .before .fits .z .sfits) })
+    rw (turned-is w64 z (c .before .fits .z) (c .if1 .taken))
+    (tt, record { fits = omega (arith, c .before .fits .z .sfits) })
 
 returns : tie.Need-returns
 returns c = rw (turned-is w64 (c .before .args .z) (c .before .fits .z) (c .if1 .taken))
@@ -36,5 +37,4 @@ returns-2 : tie.Need-returns-2
 returns-2 c = rw (same c)
 
 pub magnitude-of-spec : {M : Type 1} → statement M
-magnitude-of-spec =
-    tie.close (tie.spec add-result sub-result cast-result returns cast-result-2 returns-2)
+magnitude-of-spec = tie.close (tie.spec add-result sub-result cast-result returns cast-result-2 returns-2)

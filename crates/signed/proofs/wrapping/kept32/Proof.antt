@@ -1,4 +1,5 @@
--- `signed::wrapping::kept32` meets its contract: the remainder of a magnitude, counted from 0 up or from 2^32 - 1 down.
+-- `signed::wrapping::kept32` meets its contract: the remainder of a magnitude, counted from 0 up or from 2^32 - 1
+-- down.
 use mathlib.Core.Path.{_≡_, sym, ap, _∙_}
 use Prim.Native.Nat.{ℕ, suc, _-_, _%_, _^_}
 use native.Mathlib.Omega.{arith}
@@ -13,12 +14,6 @@ use Rattle.signed.proofs.wrapping.kept32.Tie as tie
 -- the number is read back from its bits
 magnitude : (c : tie.After-magnitude-of) → c .magnitude-of .result ≡ mag (c .before .args .z)
 magnitude c = rw (kept w64 (c .before .args .z) (c .before .fits .z)) at (c .magnitude-of .ensures)
-
-magnitude-of-requires : tie.Need-magnitude-of-requires
-magnitude-of-requires c κs = search needs
-
-cast-low : tie.Need-cast-low
-cast-low c = search needs
 
 sub-result : tie.Need-sub-result
 sub-result c = search needs
@@ -39,4 +34,4 @@ returns-2 c =
     ∙ sym (ap (modulo 32) (from-zero z (rw (kept w64 z (c .before .before .fits .z)) at (c .if1 .left))))
 
 pub kept32-spec : {M : Type 1} → statement M
-kept32-spec = tie.close (tie.spec magnitude-of-requires cast-low sub-result returns returns-2)
+kept32-spec = tie.close (tie.spec (λ c κs. search needs) (λ c. search needs) sub-result returns returns-2)

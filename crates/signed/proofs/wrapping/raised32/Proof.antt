@@ -7,12 +7,6 @@ use Rattle.signed.proofs.Signs.{kept}
 use Rattle.signed.proofs.wrapping.raised32.Statement.{statement}
 use Rattle.signed.proofs.wrapping.raised32.Tie as tie
 
-kept32-requires : tie.Need-kept32-requires
-kept32-requires c κs = search needs
-
-wrapping-add-u32-requires : tie.Need-wrapping-add-u32-requires
-wrapping-add-u32-requires c κs = search needs
-
 returns : tie.Need-returns
 unfolding raised
 returns c =
@@ -20,4 +14,4 @@ returns c =
     c .wrapping-add-u32 .ensures ∙ rw (c .before .kept32 .ensures, kept w64 (s .args .z) (s .fits .z))
 
 pub raised32-spec : {M : Type 1} → statement M
-raised32-spec = tie.close (tie.spec kept32-requires wrapping-add-u32-requires returns)
+raised32-spec = tie.close (tie.spec (λ c κs. search needs) (λ c κs. search needs) returns)

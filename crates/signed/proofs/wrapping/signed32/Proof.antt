@@ -18,12 +18,6 @@ returns : tie.Need-returns
 unfolding signed
 returns c = rw (lt-ltb (c .before .args .x) 2147483648 (c .if1 .taken))
 
-sub-past : tie.Need-sub-past
-sub-past c = search needs
-
-cast-past : tie.Need-cast-past
-cast-past c = search needs
-
 sub-result : tie.Need-sub-result
 sub-result c = neg-fits w32 (4294967295 - c .before .args .x) (omega arith)
 
@@ -39,4 +33,6 @@ returns-2 c =
 
 pub signed32-spec : {M : Type 1} → statement M
 signed32-spec =
-    tie.close (tie.spec cast-result returns sub-past cast-past sub-result sub-result-2 returns-2)
+    tie.close
+    (tie.spec
+    cast-result returns (λ c. search needs) (λ c. search needs) sub-result sub-result-2 returns-2)

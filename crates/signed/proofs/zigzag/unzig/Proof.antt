@@ -11,9 +11,6 @@ use Rattle.signed.proofs.Signs.{neg-fits, less-fits, less-is}
 use Rattle.signed.proofs.zigzag.unzig.Statement.{statement}
 use Rattle.signed.proofs.zigzag.unzig.Tie as tie
 
-cast-half : tie.Need-cast-half
-cast-half c = search needs
-
 returns : tie.Need-returns
 unfolding zigzag
 returns c = rw (toZ-pos w64 (c .before .args .u / 2) (omega arith), eq-eqb (c .before .args .u % 2) 0 (c .if1 .taken))
@@ -26,7 +23,8 @@ sub-result-2 c = less-fits w64 (c .before .args .u / 2) (omega arith)
 
 returns-2 : tie.Need-returns-2
 unfolding zigzag
-returns-2 c = less-is w64 (c .before .args .u / 2) (omega arith) ∙ rw (ne-eqb (c .before .args .u % 2) 0 (c .if1 .left))
+returns-2 c =
+    less-is w64 (c .before .args .u / 2) (omega arith) ∙ rw (ne-eqb (c .before .args .u % 2) 0 (c .if1 .left))
 
 pub unzig-spec : {M : Type 1} → statement M
-unzig-spec = tie.close (tie.spec cast-half returns sub-result sub-result-2 returns-2)
+unzig-spec = tie.close (tie.spec (λ c. search needs) returns sub-result sub-result-2 returns-2)

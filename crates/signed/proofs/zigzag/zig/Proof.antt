@@ -14,9 +14,6 @@ use Rattle.signed.proofs.zigzag.zig.Tie as tie
 magnitude : (c : tie.After-magnitude-of) → c .magnitude-of .result ≡ mag (c .before .args .z)
 magnitude c = rw (kept w64 (c .before .args .z) (c .before .fits .z)) at (c .magnitude-of .ensures)
 
-magnitude-of-requires : tie.Need-magnitude-of-requires
-magnitude-of-requires c κs = search needs
-
 mul-twice : tie.Need-mul-twice
 mul-twice c = omega (arith, magnitude c, c .before .fits .z .sfits)
 
@@ -38,4 +35,4 @@ returns-2 c =
     ∙ sym (ap zigzagOf (from-zero z (rw (kept w64 z (c .before .before .fits .z)) at (c .if1 .left))))
 
 pub zig-spec : {M : Type 1} → statement M
-zig-spec = tie.close (tie.spec magnitude-of-requires mul-twice add-result returns returns-2)
+zig-spec = tie.close (tie.spec (λ c κs. search needs) mul-twice add-result returns returns-2)

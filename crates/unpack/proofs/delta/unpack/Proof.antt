@@ -12,31 +12,34 @@ use Rattle.words.specs.Tabulated.{length-tabulate}
 use Rattle.unpack.proofs.delta.unpack.Statement.{statement}
 use Rattle.unpack.proofs.delta.unpack.Tie as tie
 
-signed-fault-requires : tie.Need-signed-fault-requires
-signed-fault-requires c κs = search needs
-
-refused-requires : tie.Need-refused-requires
-refused-requires c κs = search needs
-
 returns : tie.Need-returns
 unfolding Delta.unpack
 returns c =
-    refused-is _ _ _ _ _ _ (c .refused .ensures) (then-found _ _ _ (sym (c .before .before .signed-fault .ensures)) (c .before .if1 .taken)) (c .before .if1 .taken)
+    refused-is _ _ _ _ _ _ (c .refused .ensures)
+    (then-found _ _ _ (sym (c .before .before .signed-fault .ensures)) (c .before .if1 .taken))
+    (c .before .if1 .taken)
 
 -- past the first refusal the column keeps to its limit
 kept : (c : tie.Else1) → c .before .before .before .args .n ≤ 16384
 kept c = within-count _ (sym (c .before .signed-fault .ensures) ∙ c .if1 .left)
 
-fault-requires : tie.Need-fault-requires
-fault-requires c κs = kept c
+page-fault-requires : tie.Need-page-fault-requires
+page-fault-requires c κs = kept (c .before)
+
+-- the first fault of room and page
+found : (c : tie.After-first-fault) → let a = c .before .before .before .before .before .before .args in
+    c .first-fault .result
+    ≡ (roomFault (length (a .entries .now)) (a .n) then pageFault (read 32 (a .n) (a .page .now)))
+found c = cc
 
 -- all faults, in their order, come to the last code found
-faults : (c : tie.After-fault) → let a = c .before .before .before .before .args in
-    (countFault (a .n) then roomFault (length (a .entries .now)) (a .n) then pageFault (read 32 (a .n) (a .page .now))) ≡ c .fault .result
-faults c = then-none _ _ (sym (c .before .before .signed-fault .ensures) ∙ c .before .if1 .left) ∙ sym (c .fault .ensures)
-
-refused-requires-2 : tie.Need-refused-requires-2
-refused-requires-2 c κs = search needs
+faults : (c : tie.After-first-fault) → let a = c .before .before .before .before .before .before .args in
+    (countFault (a .n) then roomFault (length (a .entries .now)) (a .n)
+    then pageFault (read 32 (a .n) (a .page .now))) ≡ c .first-fault .result
+faults c =
+    then-none _ _
+    (sym (c .before .before .before .before .signed-fault .ensures) ∙ c .before .before .before .if1 .left)
+    ∙ sym (found c)
 
 returns-2 : tie.Need-returns-2
 unfolding Delta.unpack
@@ -44,37 +47,24 @@ returns-2 c = refused-is _ _ _ _ _ _ (c .refused2 .ensures) (faults (c .before .
 
 place-requires : tie.Need-place-requires
 place-requires c κs =
-    let z = then-zero _ _ (sym (c .before .before .fault .ensures) ∙ c .before .if2 .left) in
-    (kept (c .before .before .before), has-room _ _ (z .0), z .1)
+    let z = then-zero _ _ (sym (found (c .before .before)) ∙ c .before .if2 .left) in
+    (kept (c .before .before .before .before .before), has-room _ _ (z .0), z .1)
 
 cast-accepted : tie.Need-cast-accepted
-cast-accepted c = omega (arith, kept (c .before .before .before .before .before))
-
-accepted-requires : tie.Need-accepted-requires
-accepted-requires c κs = search needs
-
-same-length : tie.Need-same-length
-same-length c = search needs
+cast-accepted c = omega (arith, kept (c .before .before .before .before .before .before .before))
 
 returns-3 : tie.Need-returns-3
 unfolding Delta.unpack
 returns-3 c =
     let s = c .before .before in
     let e = s .before .before in
-    accepted-is _ _ _ _ _ _ (faults (e .before) ∙ e .if2 .left) (c .accepted .ensures ∙ ap accepted (sym (length-tabulate _ _))) (s .place .ensures)
+    accepted-is _ _ _ _ _ _ (faults (e .before) ∙ e .if2 .left)
+    (c .accepted .ensures ∙ ap accepted (sym (length-tabulate _ _))) (s .place .ensures)
 
 pub unpack-spec : {M : Type 1} → statement M
 unpack-spec =
     tie.close
     (tie.spec
-    signed-fault-requires
-    refused-requires
-    returns
-    fault-requires
-    refused-requires-2
-    returns-2
-    place-requires
-    cast-accepted
-    accepted-requires
-    same-length
-    returns-3)
+    (λ c κs. search needs) (λ c κs. search needs) returns (λ c κs. search needs) page-fault-requires
+    (λ c κs. search needs) (λ c κs. search needs) returns-2 place-requires cast-accepted
+    (λ c κs. search needs) (λ c. search needs) returns-3)

@@ -1,4 +1,5 @@
--- `unpack::dictionary::place` meets its contract: a column without a fault has its width byte, and the stream behind it is good.
+-- `unpack::dictionary::place` meets its contract: a column without a fault has its width byte, and the stream
+-- behind it is good.
 use mathlib.Core.Path.{ap, _∙_}
 use mathlib.Core.List.{List}
 use Prim.Native.Nat.{ℕ}
@@ -32,34 +33,23 @@ sub-look-up-runs c = omega (arith, page (c .before .before .before) .some)
 part-look-up-runs-start : tie.Need-part-look-up-runs-start
 part-look-up-runs-start c = let g = page (c .before .before .before) in search needs
 
-part-look-up-runs-end : tie.Need-part-look-up-runs-end
-part-look-up-runs-end c = search needs
-
 look-up-runs-requires : tie.Need-look-up-runs-requires
 look-up-runs-requires c κs =
     let s = c .before .before .before .before .before in
     (good-dictionary _ (column s .dictionary) .whole, page s .within, s .pre .0, s .pre .1)
-
-same-length : tie.Need-same-length
-same-length c = search needs
 
 returns : tie.Need-returns
 returns c =
     let s = c .before .before .before .before .before .before .before in
     let a = s .args in
     c .before .look-up-runs .ensures
-    ∙ ap (λ (l : List ℕ). placed (value (a .dict .now)) (widthOf (a .page .now)) (a .n) l (a .entries .now)) (part-rest (a .page .now) 1)
+    ∙ ap (λ (l : List ℕ). placed (value (a .dict .now)) (widthOf (a .page .now)) (a .n) l (a .entries .now))
+    (part-rest (a .page .now) 1)
     ∙ indexes-placed (value (a .dict .now)) (a .n) (a .page .now) (a .entries .now) (s .pre .1) (column s .reads)
 
 pub place-spec : {M : Type 1} → statement M
 place-spec =
     tie.close
     (tie.spec
-    shared-slice-read-width
-    cast-width
-    sub-look-up-runs
-    part-look-up-runs-start
-    part-look-up-runs-end
-    look-up-runs-requires
-    same-length
-    returns)
+    shared-slice-read-width cast-width sub-look-up-runs part-look-up-runs-start (λ c. search needs)
+    look-up-runs-requires (λ c. search needs) returns)

@@ -14,7 +14,8 @@ use Rattle.unpack.proofs.dictionary_lookup.fill.Statement.{statement}
 use Rattle.unpack.proofs.dictionary_lookup.fill.Tie as tie
 
 abbrev Inv-loop : tie.InvT-loop
-Inv-loop places₀ m value i₀ places i = (i ≤ m) × (length places ≡ length places₀) × (places ≡ put places₀ 0 (tabulate i (λ _. toZ w32 value)))
+Inv-loop places₀ m value i₀ places i =
+    (i ≤ m) × (length places ≡ length places₀) × (places ≡ put places₀ 0 (tabulate i (λ _. toZ w32 value)))
 
 abbrev μ-loop : tie.MeasureT-loop
 μ-loop places₀ m value i₀ places i = m - i
@@ -22,18 +23,6 @@ abbrev μ-loop : tie.MeasureT-loop
 loop-holds : tie.Need-loop-holds Inv-loop μ-loop
 unfolding tabulate
 loop-holds c = (omega arith, omega arith, put-none (c .args .places .now) 0)
-
-mul-value : tie.Need-mul-value Inv-loop μ-loop
-mul-value c = search needs
-
-slice-set-from-value : tie.Need-slice-set-from-value Inv-loop μ-loop
-slice-set-from-value c = search needs
-
-add-i : tie.Need-add-i Inv-loop μ-loop
-add-i c = search needs
-
-loop-less : tie.Need-loop-less Inv-loop μ-loop
-loop-less c = search needs
 
 loop-again : tie.Need-loop-again Inv-loop μ-loop
 loop-again c =
@@ -43,9 +32,6 @@ loop-again c =
       simp length-set (l .inv .1),
       rw (l .inv .2) (put-tabulate (a .places .now) (l .i) (λ _. toZ w32 (ofZ w32 (a .value))) (omega arith)),
     )
-
-same-length : tie.Need-same-length Inv-loop μ-loop
-same-length c = search needs
 
 returns : tie.Need-returns Inv-loop μ-loop
 returns c =
@@ -57,13 +43,5 @@ pub fill-spec : {M : Type 1} → statement M
 fill-spec =
     tie.close
     (tie.spec
-    Inv-loop
-    μ-loop
-    loop-holds
-    mul-value
-    slice-set-from-value
-    add-i
-    loop-less
-    loop-again
-    same-length
-    returns)
+    Inv-loop μ-loop loop-holds (λ c. search needs) (λ c. search needs) (λ c. search needs)
+    (λ c. search needs) loop-again (λ c. search needs) returns)

@@ -1,4 +1,5 @@
--- `unpack::dictionary_lookup::look_up_runs` meets its contract. The loop's invariant: going on from here leaves what the pass leaves.
+-- `unpack::dictionary_lookup::look_up_runs` meets its contract. The loop's invariant: going on from here leaves
+-- what the pass leaves.
 -- Each run has an entry, so fewer are left with each turn.
 use mathlib.Core.Path.{_≡_, refl, sym, _∙_}
 use Prim.Native.Nat.{_+_, _-_, _≤_}
@@ -17,33 +18,35 @@ use Rattle.unpack.proofs.dictionary_lookup.look_up_runs.Tie as tie
 
 abbrev Inv-loop : tie.InvT-loop
 Inv-loop dict page w n entries₀ at₀ i₀ entries at i =
-    (i ≤ n + 7) × (length entries ≡ length entries₀) × onward n (places (value dict)) w page (placed (value dict) w n page entries₀) at i entries
+    (i ≤ n + 7) × (length entries ≡ length entries₀)
+    × onward n (places (value dict)) w page (placed (value dict) w n page entries₀) at i entries
 
 abbrev μ-loop : tie.MeasureT-loop
 μ-loop dict page w n entries₀ at₀ i₀ entries at i = n - i
 
 -- the run that was read: equal entries, or groups
-repeated-run : (c : tie.After-known-told Inv-loop μ-loop) → let b = c .before .before .before .before .before in let a = b .before .before .before .args in let v = c .before .run .given .0 in
+repeated-run : (c : tie.After-known-told Inv-loop μ-loop)
+    → let b = c .before .before .before .before .before in
+    let a = b .before .before .before .args in
+    let v = c .before .run .given .0 in
     runAt (a .w) (a .n - b .loop .i) (a .page .now) (b .loop .at) ≡ Repeated (v .0) (v .1 .0) (v .1 .1 .0)
 repeated-run c = sym (c .before .before .before .run-at .ensures) ∙ c .before .run .given .1
 
-packed-run : (c : tie.After-known-told2 Inv-loop μ-loop) → let b = c .before .before .before .before .before in let a = b .before .before .before .args in let v = c .before .run2 .given .0 in
+packed-run : (c : tie.After-known-told2 Inv-loop μ-loop)
+    → let b = c .before .before .before .before .before in
+    let a = b .before .before .before .args in
+    let v = c .before .run2 .given .0 in
     runAt (a .w) (a .n - b .loop .i) (a .page .now) (b .loop .at) ≡ Packed (v .0) (v .1 .0) (v .1 .1 .0)
 packed-run c = sym (c .before .before .before .run-at .ensures) ∙ c .before .run2 .given .1
 
 loop-holds : tie.Need-loop-holds Inv-loop μ-loop
 loop-holds c =
-    let a = c .before .before .args in
-    (search needs, refl, begins (a .n) (places (value (a .dict .now))) (a .w) (a .page .now) _ (a .entries .now) (placed-pass (value (a .dict .now)) _ _ _ _))
-
-sub-run-at : tie.Need-sub-run-at Inv-loop μ-loop
-sub-run-at c = search needs
-
-run-at-requires : tie.Need-run-at-requires Inv-loop μ-loop
-run-at-requires c κs = search needs
-
-enum-known-run : tie.Need-enum-known-run Inv-loop μ-loop
-enum-known-run c = search needs
+    let a = c .before .before .args in (
+      search needs,
+      refl,
+      begins (a .n) (places (value (a .dict .now))) (a .w) (a .page .now) _ (a .entries .now)
+          (placed-pass (value (a .dict .now)) _ _ _ _),
+    )
 
 place-same-requires : tie.Need-place-same-requires Inv-loop μ-loop
 place-same-requires c κs =
@@ -65,20 +68,12 @@ loop-again c =
     let ran = ran-repeated _ _ _ _ (repeated-run r) in (
       omega arith,
       search needs,
-      on-repeated _ (places (value (a .dict .now))) _ _ _ (omega arith) (b .loop .inv .2) (repeated-run r) (c .before .place-same .ensures),
+      on-repeated _ (places (value (a .dict .now))) _ _ _ (omega arith) (b .loop .inv .2) (repeated-run r)
+          (c .before .place-same .ensures),
     )
-
-enum-known-run-2 : tie.Need-enum-known-run-2 Inv-loop μ-loop
-enum-known-run-2 c = search needs
 
 mul-min : tie.Need-mul-min Inv-loop μ-loop
 mul-min c = omega (arith, ran-packed _ _ _ _ (packed-run (c .before)))
-
-sub-min : tie.Need-sub-min Inv-loop μ-loop
-sub-min c = search needs
-
-min-requires : tie.Need-min-requires Inv-loop μ-loop
-min-requires c κs = search needs
 
 place-body-requires : tie.Need-place-body-requires Inv-loop μ-loop
 place-body-requires c κs =
@@ -89,7 +84,11 @@ place-body-requires c κs =
       search needs,
       search needs,
       omega arith,
-      omega (arith, body-fits (b .before .before .before .args .w) (r .before .run2 .given .0 .0) (c .min .result) (omega arith)),
+      omega (
+        arith,
+        body-fits (b .before .before .before .args .w) (r .before .run2 .given .0 .0) (c .min .result)
+            (omega arith),
+      ),
       omega (arith, b .loop .inv .1),
     )
 
@@ -112,51 +111,28 @@ loop-again-2 c =
       omega arith,
       search needs,
       on-packed _ (places (value (a .dict .now))) _ _ _ (omega arith) (b .loop .inv .2) (packed-run r)
-          (placed-body (value (a .dict .now)) (a .page .now) _ _ (a .w) (v .1 .0) (v .0) _ _ _ (c .before .before .min .ensures) (c .before .place-body .ensures)),
+          (placed-body (value (a .dict .now)) (a .page .now) _ _ (a .w) (v .1 .0) (v .0) _ _ _
+          (c .before .before .min .ensures) (c .before .place-body .ensures)),
     )
-
-enum-told : tie.Need-enum-told Inv-loop μ-loop
-enum-told c = search needs
-
-same-length : tie.Need-same-length Inv-loop μ-loop
-same-length c = search needs
 
 returns : tie.Need-returns Inv-loop μ-loop
 returns c =
     let b = c .before .before .before .before in
-    sym (on-refused _ (places (value (b .before .before .before .args .dict .now))) _ _ _ (search needs) (b .loop .inv .2) (sym (c .before .before .run-at .ensures) ∙ c .enum-told .given .1))
-
-same-length-2 : tie.Need-same-length-2 Inv-loop μ-loop
-same-length-2 c = search needs
+    sym
+    (on-refused _ (places (value (b .before .before .before .args .dict .now))) _ _ _ (search needs)
+    (b .loop .inv .2) (sym (c .before .before .run-at .ensures) ∙ c .enum-told .given .1))
 
 returns-2 : tie.Need-returns-2 Inv-loop μ-loop
-returns-2 c = sym (ends _ (places (value (c .before .before .before .before .args .dict .now))) _ _ _ (c .before .loop .inv .2) (search needs))
+returns-2 c =
+    sym
+    (ends _ (places (value (c .before .before .before .before .args .dict .now))) _ _ _ (c .before .loop .inv .2)
+    (search needs))
 
 pub look-up-runs-spec : {M : Type 1} → statement M
 look-up-runs-spec =
     tie.close
     (tie.spec
-    Inv-loop
-    μ-loop
-    loop-holds
-    sub-run-at
-    run-at-requires
-    enum-known-run
-    place-same-requires
-    add-i
-    loop-less
-    loop-again
-    enum-known-run-2
-    mul-min
-    sub-min
-    min-requires
-    place-body-requires
-    mul-i
-    add-i-2
-    loop-less-2
-    loop-again-2
-    enum-told
-    same-length
-    returns
-    same-length-2
-    returns-2)
+    Inv-loop μ-loop loop-holds (λ c. search needs) (λ c κs. search needs) (λ c. search needs)
+    place-same-requires add-i loop-less loop-again (λ c. search needs) mul-min (λ c. search needs)
+    (λ c κs. search needs) place-body-requires mul-i add-i-2 loop-less-2 loop-again-2 (λ c. search needs)
+    (λ c. search needs) returns (λ c. search needs) returns-2)

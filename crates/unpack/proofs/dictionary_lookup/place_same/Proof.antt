@@ -9,43 +9,17 @@ use Rattle.words.specs.Puts.{part-put}
 use Rattle.unpack.proofs.dictionary_lookup.place_same.Statement.{statement}
 use Rattle.unpack.proofs.dictionary_lookup.place_same.Tie as tie
 
-mul-fill : tie.Need-mul-fill
-mul-fill c = search needs
-
-sub-fill : tie.Need-sub-fill
-sub-fill c = search needs
-
-part-fill-start : tie.Need-part-fill-start
-part-fill-start c = search needs
-
-part-fill-end : tie.Need-part-fill-end
-part-fill-end c = search needs
-
-value-any-requires : tie.Need-value-any-requires
-value-any-requires c κs = search needs
-
-fill-requires : tie.Need-fill-requires
-fill-requires c κs = search needs
-
-same-length : tie.Need-same-length
-same-length c = search needs
-
 returns : tie.Need-returns
 returns c =
     let v = c .before .before .value-any in
     let a = c .before .before .before .before .before .args in
     part-put (a .entries .now) _ _ (a .p) (c .before .fill .ensures)
-    ∙ ap (λ (x : ℤ). put (a .entries .now) (a .p) (tabulate (a .m) (λ _. x))) (toZ-ofZ w32 (v .result) (record { sfits = v .ok }) ∙ v .ensures)
+    ∙ ap (λ (x : ℤ). put (a .entries .now) (a .p) (tabulate (a .m) (λ _. x)))
+    (toZ-ofZ w32 (v .result) (record { sfits = v .ok }) ∙ v .ensures)
 
 pub place-same-spec : {M : Type 1} → statement M
 place-same-spec =
     tie.close
     (tie.spec
-    mul-fill
-    sub-fill
-    part-fill-start
-    part-fill-end
-    value-any-requires
-    fill-requires
-    same-length
-    returns)
+    (λ c. search needs) (λ c. search needs) (λ c. search needs) (λ c. search needs) (λ c κs. search needs)
+    (λ c κs. search needs) (λ c. search needs) returns)

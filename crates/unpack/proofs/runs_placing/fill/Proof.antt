@@ -11,7 +11,8 @@ use Rattle.unpack.proofs.runs_placing.fill.Statement.{statement}
 use Rattle.unpack.proofs.runs_placing.fill.Tie as tie
 
 abbrev Inv-loop : tie.InvT-loop
-Inv-loop places₀ m value i₀ places i = (i ≤ m) × (length places ≡ length places₀) × (places ≡ put places₀ 0 (tabulate i (λ _. value)))
+Inv-loop places₀ m value i₀ places i =
+    (i ≤ m) × (length places ≡ length places₀) × (places ≡ put places₀ 0 (tabulate i (λ _. value)))
 
 abbrev μ-loop : tie.MeasureT-loop
 μ-loop places₀ m value i₀ places i = m - i
@@ -19,18 +20,6 @@ abbrev μ-loop : tie.MeasureT-loop
 loop-holds : tie.Need-loop-holds Inv-loop μ-loop
 unfolding tabulate
 loop-holds c = (omega arith, omega arith, put-none (c .args .places .now) 0)
-
-mul-places : tie.Need-mul-places Inv-loop μ-loop
-mul-places c = search needs
-
-slice-write-places : tie.Need-slice-write-places Inv-loop μ-loop
-slice-write-places c = search needs
-
-add-i : tie.Need-add-i Inv-loop μ-loop
-add-i c = search needs
-
-loop-less : tie.Need-loop-less Inv-loop μ-loop
-loop-less c = search needs
 
 loop-again : tie.Need-loop-again Inv-loop μ-loop
 loop-again c =
@@ -41,9 +30,6 @@ loop-again c =
       rw (l .inv .2) (put-tabulate (a .places .now) (l .i) (λ _. a .value) (omega arith)),
     )
 
-same-length : tie.Need-same-length Inv-loop μ-loop
-same-length c = search needs
-
 returns : tie.Need-returns Inv-loop μ-loop
 returns c =
     let all : c .before .loop .i ≡ c .before .before .args .m = omega arith in
@@ -53,13 +39,5 @@ pub fill-spec : {M : Type 1} → statement M
 fill-spec =
     tie.close
     (tie.spec
-    Inv-loop
-    μ-loop
-    loop-holds
-    mul-places
-    slice-write-places
-    add-i
-    loop-less
-    loop-again
-    same-length
-    returns)
+    Inv-loop μ-loop loop-holds (λ c. search needs) (λ c. search needs) (λ c. search needs)
+    (λ c. search needs) loop-again (λ c. search needs) returns)

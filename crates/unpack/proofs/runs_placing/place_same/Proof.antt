@@ -4,24 +4,6 @@ use borrow.Author.Needs.{needs}
 use Rattle.unpack.proofs.runs_placing.place_same.Statement.{statement}
 use Rattle.unpack.proofs.runs_placing.place_same.Tie as tie
 
-mul-fill : tie.Need-mul-fill
-mul-fill c = search needs
-
-sub-fill : tie.Need-sub-fill
-sub-fill c = search needs
-
-part-fill-start : tie.Need-part-fill-start
-part-fill-start c = search needs
-
-part-fill-end : tie.Need-part-fill-end
-part-fill-end c = search needs
-
-fill-requires : tie.Need-fill-requires
-fill-requires c κs = search needs
-
-same-length : tie.Need-same-length
-same-length c = search needs
-
 returns : tie.Need-returns
 returns c =
     let a = c .before .before .before .before .before .args in
@@ -30,4 +12,6 @@ returns c =
 pub place-same-spec : {M : Type 1} → statement M
 place-same-spec =
     tie.close
-    (tie.spec mul-fill sub-fill part-fill-start part-fill-end fill-requires same-length returns)
+    (tie.spec
+    (λ c. search needs) (λ c. search needs) (λ c. search needs) (λ c. search needs) (λ c κs. search needs)
+    (λ c. search needs) returns)

@@ -1,4 +1,5 @@
--- `varints::reading::number_at` meets its contract: the sum below its weight is what the bytes passed spell, and the rest is read above it.
+-- `varints::reading::number_at` meets its contract: the sum below its weight is what the bytes passed spell, and
+-- the rest is read above it.
 use mathlib.Core.Path.{_≡_}
 use Prim.Native.Nat.{_+_, _*_, _-_, _%_, _^_, _<_, _≤_}
 use native.Mathlib.Omega.{arith}
@@ -12,30 +13,34 @@ use Rattle.varints.proofs.reading.number_at.Tie as tie
 
 abbrev Inv-loop : tie.InvT-loop
 Inv-loop page at i₀ sum₀ scale₀ left₀ i sum scale left =
-    (numberAt 32 page at ≡ scaled scale sum i (uleb 16 left (drop i page))) × (sum < scale) × (scale * 128 ^ left ≡ 2 ^ 28)
+    (numberAt 32 page at ≡ scaled scale sum i (uleb 16 left (drop i page))) × (sum < scale)
+    × (scale * 128 ^ left ≡ 2 ^ 28)
 
 abbrev μ-loop : tie.MeasureT-loop
 μ-loop page at i₀ sum₀ scale₀ left₀ i sum scale left = left
 
 loop-holds : tie.Need-loop-holds Inv-loop μ-loop
 unfolding numberAt
-loop-holds c = (scaled-one (c .args .at) (uleb 16 4 (drop (c .args .at) (c .args .page .now))), search needs, search needs)
+loop-holds c =
+    (scaled-one (c .args .at) (uleb 16 4 (drop (c .args .at) (c .args .page .now))), search needs, search needs)
 
 returns : tie.Need-returns Inv-loop μ-loop
 returns c = let l = c .before .before .loop in rw (l .inv .0, ended 16 (l .left) _ (l .i) (c .if1 .taken))
-
-shared-slice-read-b : tie.Need-shared-slice-read-b Inv-loop μ-loop
-shared-slice-read-b c = search needs
 
 cast-b : tie.Need-cast-b Inv-loop μ-loop
 cast-b c = omega (arith, c .shared-slice-known .given (c .before .before .before .loop .i))
 
 -- a last byte leaves room for the sum
 low : (c : tie.Then2 Inv-loop μ-loop)
-    → let l = c .before .before .before .before .loop in l .sum + l .scale * getD (c .before .before .before .before .before .args .page .now) (l .i) 0 < 2 ^ 28
+    → let l = c .before .before .before .before .loop in
+    l .sum + l .scale * getD (c .before .before .before .before .before .args .page .now) (l .i) 0 < 2 ^ 28
 low c =
     let l = c .before .before .before .before .loop in
-    omega (arith, digit (l .scale) _ 128 (c .if2 .taken), room (l .scale) (l .left) (2 ^ 28) (search needs) (l .inv .2) .0)
+    omega (
+      arith,
+      digit (l .scale) _ 128 (c .if2 .taken),
+      room (l .scale) (l .left) (2 ^ 28) (search needs) (l .inv .2) .0,
+    )
 
 mul-t13 : tie.Need-mul-t13 Inv-loop μ-loop
 mul-t13 c = omega (arith, low c)
@@ -43,18 +48,20 @@ mul-t13 c = omega (arith, low c)
 add-t14 : tie.Need-add-t14 Inv-loop μ-loop
 add-t14 c = omega (arith, low c)
 
-add-t15 : tie.Need-add-t15 Inv-loop μ-loop
-add-t15 c = search needs
-
 returns-2 : tie.Need-returns-2 Inv-loop μ-loop
 returns-2 c =
     let l = c .before .before .before .before .loop in
-    rw (l .inv .0, step 16 (l .left) _ (l .i) (c .before .before .before .loop-test .taken) (c .before .before .if1 .left), lt-ltb _ 128 (c .if2 .taken))
+    rw (
+      l .inv .0,
+      step 16 (l .left) _ (l .i) (c .before .before .before .loop-test .taken) (c .before .before .if1 .left),
+      lt-ltb _ 128 (c .if2 .taken),
+    )
 
 -- what a byte with its top bit set adds is below the next weight, and the weights stay within the last byte's
 high : (c : tie.Else2 Inv-loop μ-loop)
     → let l = c .before .before .before .before .loop in
-    (l .sum + l .scale * (getD (c .before .before .before .before .before .args .page .now) (l .i) 0 % 128) < l .scale * 128)
+    (l .sum + l .scale * (getD (c .before .before .before .before .before .args .page .now) (l .i) 0 % 128)
+    < l .scale * 128)
     × (l .scale * 128 ≤ 2 ^ 28) × (l .scale * 128 * 128 ^ (l .left - 1) ≡ 2 ^ 28)
 high c =
     let l = c .before .before .before .before .loop in
@@ -71,28 +78,21 @@ add-sum c = omega (arith, high c)
 mul-scale : tie.Need-mul-scale Inv-loop μ-loop
 mul-scale c = omega (arith, high c)
 
-add-i : tie.Need-add-i Inv-loop μ-loop
-add-i c = search needs
-
-sub-left : tie.Need-sub-left Inv-loop μ-loop
-sub-left c = search needs
-
-loop-less : tie.Need-loop-less Inv-loop μ-loop
-loop-less c = search needs
-
 loop-again : tie.Need-loop-again Inv-loop μ-loop
 loop-again c =
     let l = c .before .before .before .before .loop in (
-      rw (l .inv .0, step 16 (l .left) _ (l .i) (c .before .before .before .loop-test .taken) (c .before .before .if1 .left), le-ltb _ 128 (c .if2 .left), scaled-below),
+      rw (
+        l .inv .0,
+        step 16 (l .left) _ (l .i) (c .before .before .before .loop-test .taken) (c .before .before .if1 .left),
+        le-ltb _ 128 (c .if2 .left),
+        scaled-below,
+      ),
       high c .0,
       high c .2,
     )
 
 returns-3 : tie.Need-returns-3 Inv-loop μ-loop
 returns-3 c = let l = c .before .before .loop in rw (l .inv .0, ended 16 (l .left) _ (l .i) (c .if3 .taken))
-
-shared-slice-read-fifth : tie.Need-shared-slice-read-fifth Inv-loop μ-loop
-shared-slice-read-fifth c = search needs
 
 cast-fifth : tie.Need-cast-fifth Inv-loop μ-loop
 cast-fifth c = omega (arith, c .shared-slice-known2 .given (c .before .before .before .loop .i))
@@ -105,7 +105,8 @@ returns-4 c =
 
 -- a fifth byte below 16 makes a number of 32 bits
 fits : (c : tie.Else4 Inv-loop μ-loop)
-    → let l = c .before .before .before .before .loop in l .sum + l .scale * getD (c .before .before .before .before .before .args .page .now) (l .i) 0 < 2 ^ 32
+    → let l = c .before .before .before .before .loop in
+    l .sum + l .scale * getD (c .before .before .before .before .before .args .page .now) (l .i) 0 < 2 ^ 32
 fits c =
     let l = c .before .before .before .before .loop in
     let z : l .left ≡ 0 = omega arith in
@@ -118,9 +119,6 @@ mul-t22 c = omega (arith, fits c)
 add-t23 : tie.Need-add-t23 Inv-loop μ-loop
 add-t23 c = omega (arith, fits c)
 
-add-t18 : tie.Need-add-t18 Inv-loop μ-loop
-add-t18 c = search needs
-
 returns-5 : tie.Need-returns-5 Inv-loop μ-loop
 returns-5 c =
     let l = c .before .before .before .before .loop in
@@ -131,28 +129,7 @@ pub number-at-spec : {M : Type 1} → statement M
 number-at-spec =
     tie.close
     (tie.spec
-    Inv-loop
-    μ-loop
-    loop-holds
-    returns
-    shared-slice-read-b
-    cast-b
-    mul-t13
-    add-t14
-    add-t15
-    returns-2
-    mul-sum
-    add-sum
-    mul-scale
-    add-i
-    sub-left
-    loop-less
-    loop-again
-    returns-3
-    shared-slice-read-fifth
-    cast-fifth
-    returns-4
-    mul-t22
-    add-t23
-    add-t18
+    Inv-loop μ-loop loop-holds returns (λ c. search needs) cast-b mul-t13 add-t14 (λ c. search needs)
+    returns-2 mul-sum add-sum mul-scale (λ c. search needs) (λ c. search needs) (λ c. search needs)
+    loop-again returns-3 (λ c. search needs) cast-fifth returns-4 mul-t22 add-t23 (λ c. search needs)
     returns-5)

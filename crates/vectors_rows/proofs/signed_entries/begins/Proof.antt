@@ -25,30 +25,17 @@ returns c = tells-not (begins-not-short (pos 0) _ _ (omega arith))
 loop-holds : tie.Need-loop-holds Inv-loop μ-loop
 loop-holds c = below-none _
 
-mul-if2 : tie.Need-mul-if2 Inv-loop μ-loop
-mul-if2 c = search needs
-
-shared-slice-copy-out-if2 : tie.Need-shared-slice-copy-out-if2 Inv-loop μ-loop
-shared-slice-copy-out-if2 c = search needs
-
-mul-if2-2 : tie.Need-mul-if2-2 Inv-loop μ-loop
-mul-if2-2 c = search needs
-
-shared-slice-copy-out-if2-2 : tie.Need-shared-slice-copy-out-if2-2 Inv-loop μ-loop
-shared-slice-copy-out-if2-2 c = search needs
-
 returns-2 : tie.Need-returns-2 Inv-loop μ-loop
-returns-2 c = tells-not (begins-not-at (pos 0) _ _ (c .before .before .before .before .loop .i) (omega arith) (λ e. c .if2 .taken (ap (ofZ w32) e)))
-
-add-i : tie.Need-add-i Inv-loop μ-loop
-add-i c = search needs
-
-loop-less : tie.Need-loop-less Inv-loop μ-loop
-loop-less c = search needs
+returns-2 c =
+    tells-not
+    (begins-not-at (pos 0) _ _ (c .before .before .before .before .loop .i) (omega arith)
+    (λ e. c .if2 .taken (ap (ofZ w32) e)))
 
 loop-again : tie.Need-loop-again Inv-loop μ-loop
 loop-again c =
-    let alike = sym (toZ-ofZ (sfits-of (c .before .before .if22 .given))) ∙ ap (toZ w32) (c .if2 .left) ∙ toZ-ofZ (sfits-of (c .before .if23 .given)) in
+    let alike =
+    sym (toZ-ofZ (sfits-of (c .before .before .if22 .given))) ∙ ap (toZ w32) (c .if2 .left)
+    ∙ toZ-ofZ (sfits-of (c .before .if23 .given)) in
     below-more _ _ (c .before .before .before .before .loop .inv) alike
 
 returns-3 : tie.Need-returns-3 Inv-loop μ-loop
@@ -58,16 +45,5 @@ pub begins-spec : {M : Type 1} → statement M
 begins-spec =
     tie.close
     (tie.spec
-    Inv-loop
-    μ-loop
-    returns
-    loop-holds
-    mul-if2
-    shared-slice-copy-out-if2
-    mul-if2-2
-    shared-slice-copy-out-if2-2
-    returns-2
-    add-i
-    loop-less
-    loop-again
-    returns-3)
+    Inv-loop μ-loop returns loop-holds (λ c. search needs) (λ c. search needs) (λ c. search needs)
+    (λ c. search needs) returns-2 (λ c. search needs) (λ c. search needs) loop-again returns-3)

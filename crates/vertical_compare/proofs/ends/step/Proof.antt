@@ -6,9 +6,6 @@ use Rattle.vertical_compare.specs.Ends.{stepped}
 use Rattle.vertical_compare.proofs.ends.step.Statement.{statement}
 use Rattle.vertical_compare.proofs.ends.step.Tie as tie
 
-shr-if1 : tie.Need-shr-if1
-shr-if1 c = search needs
-
 returns : tie.Need-returns
 unfolding stepped bit
 returns c = rw (eq-eqb _ _ (c .before .before .before .if1 .taken))
@@ -18,4 +15,4 @@ unfolding stepped bit
 returns-2 c = rw (ne-eqb _ _ (c .before .if1 .left))
 
 pub step-spec : {M : Type 1} → statement M
-step-spec = tie.close (tie.spec shr-if1 returns returns-2)
+step-spec = tie.close (tie.spec (λ c. search needs) returns returns-2)

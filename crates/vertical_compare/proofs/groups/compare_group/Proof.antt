@@ -1,4 +1,5 @@
--- `vertical_compare::groups::compare_group` meets its contract. The loop's invariant: both ends are true to the planes taken.
+-- `vertical_compare::groups::compare_group` meets its contract. The loop's invariant: both ends are true to the
+-- planes taken.
 use mathlib.Core.Path.{_≡_, _∙_}
 use Prim.Native.Nat.{_+_}
 use native.Mathlib.Omega.{arith}
@@ -16,16 +17,11 @@ use Rattle.vertical_compare.proofs.groups.compare_group.Tie as tie
 
 abbrev Inv-loop : tie.InvT-loop
 Inv-loop planes low high lower₀ upper₀ left₀ i₀ lower upper left i =
-    (left + i ≡ length planes) × (lower ≡ endAt 64 planes i left (toZ w64 low)) × (upper ≡ endAt 64 planes i left (toZ w64 high))
+    (left + i ≡ length planes) × (lower ≡ endAt 64 planes i left (toZ w64 low))
+    × (upper ≡ endAt 64 planes i left (toZ w64 high))
 
 abbrev μ-loop : tie.MeasureT-loop
 μ-loop planes low high lower₀ upper₀ left₀ i₀ lower upper left i = left
-
-start-requires : tie.Need-start-requires Inv-loop μ-loop
-start-requires c κs = search needs
-
-start-requires-2 : tie.Need-start-requires-2 Inv-loop μ-loop
-start-requires-2 c κs = search needs
 
 loop-holds : tie.Need-loop-holds Inv-loop μ-loop
 loop-holds c =
@@ -34,27 +30,6 @@ loop-holds c =
       c .before .start .ensures ∙ any-planes 64 planes (length planes) _,
       c .start2 .ensures ∙ any-planes 64 planes (length planes) _,
     )
-
-sub-left : tie.Need-sub-left Inv-loop μ-loop
-sub-left c = search needs
-
-mul-plane : tie.Need-mul-plane Inv-loop μ-loop
-mul-plane c = search needs
-
-shared-slice-read-plane : tie.Need-shared-slice-read-plane Inv-loop μ-loop
-shared-slice-read-plane c = search needs
-
-step-requires : tie.Need-step-requires Inv-loop μ-loop
-step-requires c κs = search needs
-
-step-requires-2 : tie.Need-step-requires-2 Inv-loop μ-loop
-step-requires-2 c κs = search needs
-
-add-i : tie.Need-add-i Inv-loop μ-loop
-add-i c = search needs
-
-loop-less : tie.Need-loop-less Inv-loop μ-loop
-loop-less c = search needs
 
 loop-again : tie.Need-loop-again Inv-loop μ-loop
 loop-again c =
@@ -81,17 +56,6 @@ pub compare-group-spec : {M : Type 1} → statement M
 compare-group-spec =
     tie.close
     (tie.spec
-    Inv-loop
-    μ-loop
-    start-requires
-    start-requires-2
-    loop-holds
-    sub-left
-    mul-plane
-    shared-slice-read-plane
-    step-requires
-    step-requires-2
-    add-i
-    loop-less
-    loop-again
-    returns)
+    Inv-loop μ-loop (λ c κs. search needs) (λ c κs. search needs) loop-holds (λ c. search needs)
+    (λ c. search needs) (λ c. search needs) (λ c κs. search needs) (λ c κs. search needs)
+    (λ c. search needs) (λ c. search needs) loop-again returns)

@@ -1,4 +1,5 @@
--- `vertical_scan::judging::all_planes` meets its contract. The loop's invariant: the words passed are put over each other.
+-- `vertical_scan::judging::all_planes` meets its contract. The loop's invariant: the words passed are put over each
+-- other.
 use mathlib.Core.Path.{_≡_, refl, sym, ap, _∙_}
 use Prim.Native.Nat.{ℕ, _+_, _-_, _≤_}
 use native.Mathlib.Numerals.{add-one}
@@ -19,27 +20,18 @@ loop-holds : tie.Need-loop-holds Inv-loop μ-loop
 unfolding orTo
 loop-holds c = (omega arith, refl)
 
-add-all : tie.Need-add-all Inv-loop μ-loop
-add-all c = omega arith
-
 mul-all : tie.Need-mul-all Inv-loop μ-loop
 mul-all c = omega (arith, c .before .before .good)
-
-shared-slice-read-all : tie.Need-shared-slice-read-all Inv-loop μ-loop
-shared-slice-read-all c = omega arith
-
-add-k : tie.Need-add-k Inv-loop μ-loop
-add-k c = omega arith
-
-loop-less : tie.Need-loop-less Inv-loop μ-loop
-loop-less c = omega arith
 
 loop-again : tie.Need-loop-again Inv-loop μ-loop
 unfolding orTo
 loop-again c =
     let a = c .before .before .before .args in
-    let l = c .before .before .loop in
-    (omega arith, ap (λ (x : ℕ). bitOr x (getD (a .words .now) (a .at + l .k) 0)) (l .inv .1) ∙ ap (orTo (a .words .now) (a .at)) (sym (add-one (l .k))))
+    let l = c .before .before .loop in (
+      omega arith,
+      ap (λ (x : ℕ). bitOr x (getD (a .words .now) (a .at + l .k) 0)) (l .inv .1)
+          ∙ ap (orTo (a .words .now) (a .at)) (sym (add-one (l .k))),
+    )
 
 returns : tie.Need-returns Inv-loop μ-loop
 returns c =
@@ -50,13 +42,5 @@ pub all-planes-spec : {M : Type 1} → statement M
 all-planes-spec =
     tie.close
     (tie.spec
-    Inv-loop
-    μ-loop
-    loop-holds
-    add-all
-    mul-all
-    shared-slice-read-all
-    add-k
-    loop-less
-    loop-again
-    returns)
+    Inv-loop μ-loop loop-holds (λ c. omega arith) mul-all (λ c. omega arith) (λ c. omega arith)
+    (λ c. omega arith) loop-again returns)

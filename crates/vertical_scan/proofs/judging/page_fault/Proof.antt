@@ -13,9 +13,6 @@ use Rattle.vertical_scan.specs.GoodColumn.{words-le}
 use Rattle.vertical_scan.proofs.judging.page_fault.Statement.{statement}
 use Rattle.vertical_scan.proofs.judging.page_fault.Tie as tie
 
-add-need : tie.Need-add-need
-add-need c = search needs
-
 mul-need : tie.Need-mul-need
 mul-need c = let a = c .before .args in omega (arith, words-le (a .width) (a .n) (omega arith) (omega arith))
 
@@ -31,20 +28,27 @@ returns-3 : tie.Need-returns-3
 unfolding pageFault _then_
 returns-3 c =
     let a = c .before .before .before .before .args in
-    rw (le-ltb _ _ (c .before .before .if1 .left), le-ltb _ _ (c .before .if2 .left), unused-none (a .words .now) (a .width) (a .n) (c .if3 .taken))
+    rw (
+      le-ltb _ _ (c .before .before .if1 .left),
+      le-ltb _ _ (c .before .if2 .left),
+      unused-none (a .words .now) (a .width) (a .n) (c .if3 .taken),
+    )
 
 -- the group that n ends in is the last one
-last : (c : tie.Else3) → let a = c .before .before .before .before .args in a .n / 64 * a .width + a .width ≤ (a .n + 63) / 64 * a .width
-last c = let a = c .before .before .before .before .args in place-within (a .width) (a .n / 64) ((a .n + 63) / 64) (omega arith)
+last : (c : tie.Else3)
+    → let a = c .before .before .before .before .args in
+    a .n / 64 * a .width + a .width ≤ (a .n + 63) / 64 * a .width
+last c =
+    let a = c .before .before .before .before .args in
+    place-within (a .width) (a .n / 64) ((a .n + 63) / 64) (omega arith)
 
 mul-all-planes : tie.Need-mul-all-planes
-mul-all-planes c = let a = c .before .before .before .before .args in omega (arith, last c, words-le (a .width) (a .n) (omega arith) (omega arith))
+mul-all-planes c =
+    let a = c .before .before .before .before .args in
+    omega (arith, last c, words-le (a .width) (a .n) (omega arith) (omega arith))
 
 all-planes-requires : tie.Need-all-planes-requires
 all-planes-requires c κs = omega (arith, last c)
-
-shr-if4 : tie.Need-shr-if4
-shr-if4 c = search needs
 
 -- what is left above n's lanes says whether some unused lane is not 0
 rest : (c : tie.After-all-planes) → let a = c .before .before .before .before .before .args in
@@ -59,25 +63,25 @@ returns-4 : tie.Need-returns-4
 unfolding pageFault _then_
 returns-4 c =
     let s = c .before in
-    rw (le-ltb _ _ (s .before .before .before .if1 .left), le-ltb _ _ (s .before .before .if2 .left), sym (rest s) ∙ lt-ltb _ _ (c .if4 .taken))
+    rw (
+      le-ltb _ _ (s .before .before .before .if1 .left),
+      le-ltb _ _ (s .before .before .if2 .left),
+      sym (rest s) ∙ lt-ltb _ _ (c .if4 .taken),
+    )
 
 returns-5 : tie.Need-returns-5
 unfolding pageFault _then_
 returns-5 c =
     let s = c .before in
-    rw (le-ltb _ _ (s .before .before .before .if1 .left), le-ltb _ _ (s .before .before .if2 .left), sym (rest s) ∙ le-ltb _ _ (c .if4 .left))
+    rw (
+      le-ltb _ _ (s .before .before .before .if1 .left),
+      le-ltb _ _ (s .before .before .if2 .left),
+      sym (rest s) ∙ le-ltb _ _ (c .if4 .left),
+    )
 
 pub page-fault-spec : {M : Type 1} → statement M
 page-fault-spec =
     tie.close
     (tie.spec
-    add-need
-    mul-need
-    returns
-    returns-2
-    returns-3
-    mul-all-planes
-    all-planes-requires
-    shr-if4
-    returns-4
-    returns-5)
+    (λ c. search needs) mul-need returns returns-2 returns-3 mul-all-planes all-planes-requires
+    (λ c. search needs) returns-4 returns-5)

@@ -1,4 +1,5 @@
--- `vertical_scan::scanning::group_bits` meets its contract: the group's planes are lent on, and its lanes turned where the band is.
+-- `vertical_scan::scanning::group_bits` meets its contract: the group's planes are lent on, and its lanes turned
+-- where the band is.
 use mathlib.Core.Path.{_≡_, ap, _∙_}
 use Prim.Native.Nat.{ℕ, _+_, _-_, _*_}
 use native.Mathlib.Omega.{arith}
@@ -18,41 +19,26 @@ use Rattle.vertical_scan.specs.Chosen.{lanes-inside, lanes-outside}
 use Rattle.vertical_scan.proofs.scanning.group_bits.Statement.{statement}
 use Rattle.vertical_scan.proofs.scanning.group_bits.Tie as tie
 
-mul-at : tie.Need-mul-at
-mul-at c = search needs
-
-add-end : tie.Need-add-end
-add-end c = search needs
-
-mul-compare-group : tie.Need-mul-compare-group
-mul-compare-group c = search needs
-
-sub-compare-group : tie.Need-sub-compare-group
-sub-compare-group c = search needs
-
-part-compare-group-start : tie.Need-part-compare-group-start
-part-compare-group-start c = search needs
-
-part-compare-group-end : tie.Need-part-compare-group-end
-part-compare-group-end c = search needs
-
-compare-group-requires : tie.Need-compare-group-requires
-compare-group-requires c κs = search needs
-
 -- the part that was lent holds the group's lanes
 inside : (c : tie.After-compare-group) → let a = c .before .before .before .before .before .args in
-    c .compare-group .result ≡ word 64 (λ j. between (a .band .low) (a .band .high) (pos (lane (a .words .now) (a .g * a .w) (a .w) j)))
+    c .compare-group .result
+    ≡ word 64 (λ j. between (a .band .low) (a .band .high) (pos (lane (a .words .now) (a .g * a .w) (a .w) j)))
 inside c =
     let s = c .before .before .before .before .before in
     let a = s .args in
     let at = a .g * a .w in
     let size : at + a .w - at ≡ a .w = omega arith in
-    let whole : length (take (a .w) (drop at (a .words .now))) ≡ a .w = length-take-le (a .w) (drop at (a .words .now)) (rw length-drop (omega arith)) in
+    let whole : length (take (a .w) (drop at (a .words .now))) ≡ a .w =
+    length-take-le (a .w) (drop at (a .words .now)) (rw length-drop (omega arith)) in
     let t = c .before .before in
-    let low : toZ w64 (ofZ w64 (a .band .low)) ≡ a .band .low = toZ-ofZ w64 (a .band .low) (record { sfits = t .struct-told .given .0 .1 }) in
-    let high : toZ w64 (ofZ w64 (a .band .high)) ≡ a .band .high = toZ-ofZ w64 (a .band .high) (record { sfits = t .struct-told .given .1 .0 .1 }) in
+    let low : toZ w64 (ofZ w64 (a .band .low)) ≡ a .band .low =
+    toZ-ofZ w64 (a .band .low) (record { sfits = t .struct-told .given .0 .1 }) in
+    let high : toZ w64 (ofZ w64 (a .band .high)) ≡ a .band .high =
+    toZ-ofZ w64 (a .band .high) (record { sfits = t .struct-told .given .1 .0 .1 }) in
     (rw (low, high, size, whole) at (c .compare-group .ensures))
-    ∙ word-ext 64 (λ j l. ap (λ (x : ℕ). between (a .band .low) (a .band .high) (pos x)) (lane-part (a .words .now) at (a .w) j))
+    ∙ word-ext 64
+    (λ j l. ap (λ (x : ℕ). between (a .band .low) (a .band .high) (pos x))
+    (lane-part (a .words .now) at (a .w) j))
 
 returns : tie.Need-returns
 returns c = lanes-outside _ _ _ _ _ (c .if1 .taken) (inside (c .before))
@@ -64,12 +50,5 @@ pub group-bits-spec : {M : Type 1} → statement M
 group-bits-spec =
     tie.close
     (tie.spec
-    mul-at
-    add-end
-    mul-compare-group
-    sub-compare-group
-    part-compare-group-start
-    part-compare-group-end
-    compare-group-requires
-    returns
-    returns-2)
+    (λ c. search needs) (λ c. search needs) (λ c. search needs) (λ c. search needs) (λ c. search needs)
+    (λ c. search needs) (λ c κs. search needs) returns returns-2)

@@ -1,4 +1,5 @@
--- `vertical_scan::scanning::select` meets its contract: the groups that n fills, then the lanes of the last one that n reaches.
+-- `vertical_scan::scanning::select` meets its contract: the groups that n fills, then the lanes of the last one
+-- that n reaches.
 use mathlib.Core.Path.{_≡_, ap, _∙_}
 use mathlib.Core.List.{List}
 use Prim.Native.Nat.{ℕ, _+_, _*_, _/_, _%_, _^_}
@@ -18,9 +19,6 @@ select-full-requires c κs =
     let a = c .before .before .before .args in
     omega (arith, mul-le-mul-right {m = a .n / 64} {n = ceil (a .n) 64} (a .w) (omega arith))
 
-same-length : tie.Need-same-length
-same-length c = search needs
-
 returns : tie.Need-returns
 returns c =
     let s = c .before .before .before in
@@ -33,25 +31,10 @@ group-bits-requires c κs =
     let a = c .before .before .before .before .before .before .before .args in
     omega (arith, place-within (a .w) (a .n / 64) (ceil (a .n) 64) (omega arith))
 
-shl-bits : tie.Need-shl-bits
-shl-bits c = search needs
-
 rem-bits : tie.Need-rem-bits
 rem-bits c =
     let r = c .before .before .before .before .before .before .before .before .args .n % 64 in
     rw (one-shl 64 r (omega arith)) (pow-pos r)
-
-mul-store-low : tie.Need-mul-store-low
-mul-store-low c = search needs
-
-add-store-low : tie.Need-add-store-low
-add-store-low c = search needs
-
-store-low-requires : tie.Need-store-low-requires
-store-low-requires c κs = search needs
-
-same-length-2 : tie.Need-same-length-2
-same-length-2 c = search needs
 
 returns-2 : tie.Need-returns-2
 returns-2 c =
@@ -60,11 +43,15 @@ returns-2 c =
     let a = f .before .before .before .before .args in
     let q = a .n / 64 in
     let r = a .n % 64 in
-    let bits : s .before .before .group-bits .result % ((1 * 2 ^ r) % 2 ^ 64) ≡ lanes64 (a .words .now) (q * a .w) (a .w) (a .band) % 2 ^ r =
+    let bits : s .before .before .group-bits .result % ((1 * 2 ^ r) % 2 ^ 64)
+    ≡ lanes64 (a .words .now) (q * a .w) (a .w) (a .band) % 2 ^ r =
     rw (one-shl 64 r (omega arith), s .before .before .group-bits .ensures) in
     let all : 64 * q + r ≡ a .n = omega arith in
     s .store-low .ensures
-    ∙ ap (λ (l : List ℕ). put l (8 * q) (bytes (ceil r 8) (s .before .before .group-bits .result % ((1 * 2 ^ r) % 2 ^ 64)))) (f .select-full .ensures)
+    ∙ ap
+    (λ (l : List ℕ). put l (8 * q)
+    (bytes (ceil r 8) (s .before .before .group-bits .result % ((1 * 2 ^ r) % 2 ^ 64))))
+    (f .select-full .ensures)
     ∙ next-chosen (a .bitmap .now) (a .words .now) (a .w) (a .band) q r _ (omega arith) (omega arith) bits
     ∙ ap (λ (k : ℕ). put (a .bitmap .now) 0 (chosen (a .words .now) k (a .w) (a .band))) all
 
@@ -72,14 +59,5 @@ pub select-spec : {M : Type 1} → statement M
 select-spec =
     tie.close
     (tie.spec
-    select-full-requires
-    same-length
-    returns
-    group-bits-requires
-    shl-bits
-    rem-bits
-    mul-store-low
-    add-store-low
-    store-low-requires
-    same-length-2
-    returns-2)
+    select-full-requires (λ c. search needs) returns group-bits-requires (λ c. search needs) rem-bits
+    (λ c. search needs) (λ c. search needs) (λ c κs. search needs) (λ c. search needs) returns-2)

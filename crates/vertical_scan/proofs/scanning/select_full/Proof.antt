@@ -1,4 +1,5 @@
--- `vertical_scan::scanning::select_full` meets its contract. The loop's invariant: the words of the groups passed are in place.
+-- `vertical_scan::scanning::select_full` meets its contract. The loop's invariant: the words of the groups passed
+-- are in place.
 use mathlib.Core.Path.{_≡_, sym, ap, _∙_}
 use Prim.Native.Nat.{ℕ, _+_, _-_, _*_, _%_, _^_, _≤_}
 use native.Mathlib.Nat.{mod-eq-of-lt}
@@ -11,7 +12,8 @@ use Rattle.vertical_scan.proofs.scanning.select_full.Statement.{stateme
 use Rattle.vertical_scan.proofs.scanning.select_full.Tie as tie
 
 abbrev Inv-loop : tie.InvT-loop
-Inv-loop words w q band bitmap₀ g₀ bitmap g = (g ≤ q) × (length bitmap ≡ length bitmap₀) × (bitmap ≡ put bitmap₀ 0 (chosen words (64 * g) w band))
+Inv-loop words w q band bitmap₀ g₀ bitmap g =
+    (g ≤ q) × (length bitmap ≡ length bitmap₀) × (bitmap ≡ put bitmap₀ 0 (chosen words (64 * g) w band))
 
 abbrev μ-loop : tie.MeasureT-loop
 μ-loop words w q band bitmap₀ g₀ bitmap g = q - g
@@ -21,22 +23,10 @@ loop-holds c =
     let a = c .before .before .args in
     (omega arith, omega arith, none-chosen (a .bitmap .now) (a .words .now) (a .w) (a .band))
 
-mul-store8 : tie.Need-mul-store8 Inv-loop μ-loop
-mul-store8 c = omega arith
-
 group-bits-requires : tie.Need-group-bits-requires Inv-loop μ-loop
 group-bits-requires c κs =
     let a = c .before .before .before .before .before .args in
     omega (arith, place-within (a .w) (c .before .before .loop .g) (a .q) (omega arith))
-
-store8-requires : tie.Need-store8-requires Inv-loop μ-loop
-store8-requires c κs = omega arith
-
-add-g : tie.Need-add-g Inv-loop μ-loop
-add-g c = omega arith
-
-loop-less : tie.Need-loop-less Inv-loop μ-loop
-loop-less c = omega arith
 
 loop-again : tie.Need-loop-again Inv-loop μ-loop
 loop-again c =
@@ -54,9 +44,6 @@ loop-again c =
           ∙ ap (λ (k : ℕ). put (a .bitmap .now) 0 (chosen (a .words .now) k (a .w) (a .band))) (sym more),
     )
 
-same-length : tie.Need-same-length Inv-loop μ-loop
-same-length c = omega arith
-
 returns : tie.Need-returns Inv-loop μ-loop
 returns c =
     let all : c .before .loop .g ≡ c .before .before .before .before .args .q = omega arith in
@@ -66,14 +53,5 @@ pub select-full-spec : {M : Type 1} → statement M
 select-full-spec =
     tie.close
     (tie.spec
-    Inv-loop
-    μ-loop
-    loop-holds
-    mul-store8
-    group-bits-requires
-    store8-requires
-    add-g
-    loop-less
-    loop-again
-    same-length
-    returns)
+    Inv-loop μ-loop loop-holds (λ c. omega arith) group-bits-requires (λ c κs. omega arith)
+    (λ c. omega arith) (λ c. omega arith) loop-again (λ c. omega arith) returns)

@@ -12,7 +12,8 @@ use Rattle.vertical_turn.proofs.gathering.gather.Statement.{statement}
 use Rattle.vertical_turn.proofs.gathering.gather.Tie as tie
 
 abbrev Inv-loop : tie.InvT-loop
-Inv-loop entries low words₀ r₀ words r = (r ≤ 8) × (length words ≡ length words₀) × (words ≡ put words₀ 0 (tabulate r (gathered entries low)))
+Inv-loop entries low words₀ r₀ words r =
+    (r ≤ 8) × (length words ≡ length words₀) × (words ≡ put words₀ 0 (tabulate r (gathered entries low)))
 
 abbrev μ-loop : tie.MeasureT-loop
 μ-loop entries low words₀ r₀ words r = 8 - r
@@ -21,32 +22,15 @@ loop-holds : tie.Need-loop-holds Inv-loop μ-loop
 unfolding tabulate
 loop-holds c = (omega arith, omega arith, put-none (c .before .before .args .words .now) 0)
 
-gather-one-requires : tie.Need-gather-one-requires Inv-loop μ-loop
-gather-one-requires c κs = search needs
-
-mul-words : tie.Need-mul-words Inv-loop μ-loop
-mul-words c = search needs
-
-slice-write-words : tie.Need-slice-write-words Inv-loop μ-loop
-slice-write-words c = search needs
-
-add-r : tie.Need-add-r Inv-loop μ-loop
-add-r c = search needs
-
-loop-less : tie.Need-loop-less Inv-loop μ-loop
-loop-less c = search needs
-
 loop-again : tie.Need-loop-again Inv-loop μ-loop
 loop-again c =
     let a = c .before .before .before .before .before .args in
     let l = c .before .before .loop in (
       omega arith,
       simp length-set (l .inv .1),
-      rw (l .inv .2, c .gather-one .ensures) (put-tabulate (a .words .now) (l .r) (gathered (a .entries .now) (a .low)) (omega arith)),
+      rw (l .inv .2, c .gather-one .ensures)
+          (put-tabulate (a .words .now) (l .r) (gathered (a .entries .now) (a .low)) (omega arith)),
     )
-
-same-length : tie.Need-same-length Inv-loop μ-loop
-same-length c = search needs
 
 returns : tie.Need-returns Inv-loop μ-loop
 returns c =
@@ -57,14 +41,5 @@ pub gather-spec : {M : Type 1} → statement M
 gather-spec =
     tie.close
     (tie.spec
-    Inv-loop
-    μ-loop
-    loop-holds
-    gather-one-requires
-    mul-words
-    slice-write-words
-    add-r
-    loop-less
-    loop-again
-    same-length
-    returns)
+    Inv-loop μ-loop loop-holds (λ c κs. search needs) (λ c. search needs) (λ c. search needs)
+    (λ c. search needs) (λ c. search needs) loop-again (λ c. search needs) returns)

@@ -1,10 +1,12 @@
--- `vertical_turn::gathering::gather_one` meets its contract: each turn multiplies the bytes of the entries behind by 256 and adds that of one before them.
+-- `vertical_turn::gathering::gather_one` meets its contract: each turn multiplies the bytes of the entries behind
+-- by 256 and adds that of one before them.
 use mathlib.Core.Path.{_≡_, sym, ap, _∙_}
 use Prim.Native.Nat.{ℕ, _+_, _-_, _*_, _/_, _%_, _^_, _≤_, _<_}
 use native.Mathlib.Omega.{arith}
 use lib.ListN.{length, getD}
 use borrow.Author.Needs.{needs}
-use Rattle.vertical_turn.specs.PlanesFromBytes.{gatheredFrom, gathered-none, gathered-step, gathered-fits, gathered-all}
+use Rattle.vertical_turn.specs.PlanesFromBytes.{gatheredFrom, gathered-none, gathered-step, gathered-fits}
+use Rattle.vertical_turn.specs.PlanesFromBytes.{gathered-all}
 use Rattle.vertical_turn.proofs.gathering.gather_one.Statement.{statement}
 use Rattle.vertical_turn.proofs.gathering.gather_one.Tie as tie
 
@@ -17,7 +19,8 @@ abbrev μ-loop : tie.MeasureT-loop
 -- the bytes with one entry's more, and that they fit
 more : (c : tie.After-shared-slice-known Inv-loop μ-loop)
     → let l = c .before .before .loop in let a = c .before .before .before .args in let b : ℕ = l .b - 1 in
-    (gatheredFrom (a .entries .now) (a .low) (a .r) b ≡ l .x * 256 + getD (a .entries .now) (8 * b + (7 - a .r)) 0 / 2 ^ a .low % 256)
+    (gatheredFrom (a .entries .now) (a .low) (a .r) b
+    ≡ l .x * 256 + getD (a .entries .now) (8 * b + (7 - a .r)) 0 / 2 ^ a .low % 256)
     × (gatheredFrom (a .entries .now) (a .low) (a .r) b < 2 ^ 64)
 more c =
     let l = c .before .before .loop in
@@ -26,54 +29,25 @@ more c =
     let xs = a .entries .now in
     let e : b + 1 ≡ l .b = omega arith in (
       gathered-step xs (a .low) (a .r) b (omega arith)
-          ∙ ap (λ (x : ℕ). x * 256 + getD xs (8 * b + (7 - a .r)) 0 / 2 ^ a .low % 256) (ap (gatheredFrom xs (a .low) (a .r)) e ∙ sym (l .inv .2)),
+          ∙ ap (λ (x : ℕ). x * 256 + getD xs (8 * b + (7 - a .r)) 0 / 2 ^ a .low % 256)
+          (ap (gatheredFrom xs (a .low) (a .r)) e ∙ sym (l .inv .2)),
       gathered-fits xs (a .low) (a .r) b,
     )
-
-add-b : tie.Need-add-b Inv-loop μ-loop
-add-b c = search needs
 
 loop-holds : tie.Need-loop-holds Inv-loop μ-loop
 loop-holds c =
     let a = c .args in
-    let xs = a .entries .now in
-    (omega arith, omega arith, sym (gathered-none xs (a .low) (a .r) ((length xs + a .r) / 8) (omega arith) (omega arith)))
-
-sub-b : tie.Need-sub-b Inv-loop μ-loop
-sub-b c = search needs
-
-mul-byte : tie.Need-mul-byte Inv-loop μ-loop
-mul-byte c = search needs
-
-sub-byte : tie.Need-sub-byte Inv-loop μ-loop
-sub-byte c = search needs
-
-add-byte : tie.Need-add-byte Inv-loop μ-loop
-add-byte c = search needs
-
-mul-byte-2 : tie.Need-mul-byte-2 Inv-loop μ-loop
-mul-byte-2 c = search needs
-
-shared-slice-read-byte : tie.Need-shared-slice-read-byte Inv-loop μ-loop
-shared-slice-read-byte c = search needs
-
-cast-byte : tie.Need-cast-byte Inv-loop μ-loop
-cast-byte c = search needs
-
-shr-byte : tie.Need-shr-byte Inv-loop μ-loop
-shr-byte c = search needs
+    let xs = a .entries .now in (
+      omega arith,
+      omega arith,
+      sym (gathered-none xs (a .low) (a .r) ((length xs + a .r) / 8) (omega arith) (omega arith)),
+    )
 
 mul-x : tie.Need-mul-x Inv-loop μ-loop
 mul-x c = omega (arith, more c)
 
-cast-x : tie.Need-cast-x Inv-loop μ-loop
-cast-x c = search needs
-
 add-x : tie.Need-add-x Inv-loop μ-loop
 add-x c = omega (arith, more c)
-
-loop-less : tie.Need-loop-less Inv-loop μ-loop
-loop-less c = search needs
 
 loop-again : tie.Need-loop-again Inv-loop μ-loop
 loop-again c = (omega arith, omega arith, sym (more c .0))
@@ -82,27 +56,13 @@ returns : tie.Need-returns Inv-loop μ-loop
 returns c =
     let a = c .before .before .args in
     let e : c .before .loop .b ≡ 0 = omega arith in
-    c .before .loop .inv .2 ∙ ap (gatheredFrom (a .entries .now) (a .low) (a .r)) e ∙ gathered-all (a .entries .now) (a .low) (a .r)
+    c .before .loop .inv .2 ∙ ap (gatheredFrom (a .entries .now) (a .low) (a .r)) e
+    ∙ gathered-all (a .entries .now) (a .low) (a .r)
 
 pub gather-one-spec : {M : Type 1} → statement M
 gather-one-spec =
     tie.close
     (tie.spec
-    Inv-loop
-    μ-loop
-    add-b
-    loop-holds
-    sub-b
-    mul-byte
-    sub-byte
-    add-byte
-    mul-byte-2
-    shared-slice-read-byte
-    cast-byte
-    shr-byte
-    mul-x
-    cast-x
-    add-x
-    loop-less
-    loop-again
-    returns)
+    Inv-loop μ-loop (λ c. search needs) loop-holds (λ c. search needs) (λ c. search needs)
+    (λ c. search needs) (λ c. search needs) (λ c. search needs) (λ c. search needs) (λ c. search needs)
+    (λ c. search needs) mul-x (λ c. search needs) add-x (λ c. search needs) loop-again returns)

@@ -12,7 +12,8 @@ use Rattle.vertical_turn.proofs.packing.lay_eight.Statement.{statement}
 use Rattle.vertical_turn.proofs.packing.lay_eight.Tie as tie
 
 abbrev Inv-loop : tie.InvT-loop
-Inv-loop words k planes₀ t₀ planes t = (t ≤ 8) × (length planes ≡ length planes₀) × (planes ≡ put planes₀ k (tabulate t (turnedDown words 8)))
+Inv-loop words k planes₀ t₀ planes t =
+    (t ≤ 8) × (length planes ≡ length planes₀) × (planes ≡ put planes₀ k (tabulate t (turnedDown words 8)))
 
 abbrev μ-loop : tie.MeasureT-loop
 μ-loop words k planes₀ t₀ planes t = 8 - t
@@ -21,27 +22,6 @@ loop-holds : tie.Need-loop-holds Inv-loop μ-loop
 unfolding tabulate
 loop-holds c = let a = c .before .before .args in (omega arith, omega arith, put-none (a .planes .now) (a .k))
 
-sub-turn-one : tie.Need-sub-turn-one Inv-loop μ-loop
-sub-turn-one c = search needs
-
-turn-one-requires : tie.Need-turn-one-requires Inv-loop μ-loop
-turn-one-requires c κs = search needs
-
-add-planes : tie.Need-add-planes Inv-loop μ-loop
-add-planes c = search needs
-
-mul-planes : tie.Need-mul-planes Inv-loop μ-loop
-mul-planes c = search needs
-
-slice-write-planes : tie.Need-slice-write-planes Inv-loop μ-loop
-slice-write-planes c = search needs
-
-add-t : tie.Need-add-t Inv-loop μ-loop
-add-t c = search needs
-
-loop-less : tie.Need-loop-less Inv-loop μ-loop
-loop-less c = search needs
-
 loop-again : tie.Need-loop-again Inv-loop μ-loop
 unfolding turnedDown
 loop-again c =
@@ -49,32 +29,21 @@ loop-again c =
     let l = c .before .before .loop in (
       omega arith,
       simp length-set (l .inv .1),
-      rw (l .inv .2, c .turn-one .ensures) (put-tabulate-at (a .planes .now) (a .k) (l .t) (turnedDown (a .words .now) 8) (omega arith)),
+      rw (l .inv .2, c .turn-one .ensures)
+          (put-tabulate-at (a .planes .now) (a .k) (l .t) (turnedDown (a .words .now) 8) (omega arith)),
     )
-
-same-length : tie.Need-same-length Inv-loop μ-loop
-same-length c = search needs
 
 returns : tie.Need-returns Inv-loop μ-loop
 returns c =
     let a = c .before .before .before .before .args in
     let all : c .before .loop .t ≡ 8 = omega arith in
-    c .before .loop .inv .2 ∙ ap (λ (m : ℕ). put (a .planes .now) (a .k) (tabulate m (turnedDown (a .words .now) 8))) all
+    c .before .loop .inv .2
+    ∙ ap (λ (m : ℕ). put (a .planes .now) (a .k) (tabulate m (turnedDown (a .words .now) 8))) all
 
 pub lay-eight-spec : {M : Type 1} → statement M
 lay-eight-spec =
     tie.close
     (tie.spec
-    Inv-loop
-    μ-loop
-    loop-holds
-    sub-turn-one
-    turn-one-requires
-    add-planes
-    mul-planes
-    slice-write-planes
-    add-t
-    loop-less
-    loop-again
-    same-length
-    returns)
+    Inv-loop μ-loop loop-holds (λ c. search needs) (λ c κs. search needs) (λ c. search needs)
+    (λ c. search needs) (λ c. search needs) (λ c. search needs) (λ c. search needs) loop-again
+    (λ c. search needs) returns)

@@ -1,4 +1,5 @@
--- `vertical_turn::packing::pack_group` meets its contract: each turn stores eight planes more, the first turn those that are left over of eights.
+-- `vertical_turn::packing::pack_group` meets its contract: each turn stores eight planes more, the first turn those
+-- that are left over of eights.
 use mathlib.Core.Path.{_≡_, ap, _∙_}
 use Prim.Native.Nat.{ℕ, _+_, _-_, _%_, _≤_}
 use native.Mathlib.Omega.{arith}
@@ -12,7 +13,8 @@ use Rattle.vertical_turn.proofs.packing.pack_group.Statement.{statement
 use Rattle.vertical_turn.proofs.packing.pack_group.Tie as tie
 
 abbrev Inv-loop : tie.InvT-loop
-Inv-loop entries w planes₀ k₀ planes k = (k ≤ w) × (length planes ≡ length planes₀) × (planes ≡ put planes₀ 0 (tabulate k (plane w entries 0)))
+Inv-loop entries w planes₀ k₀ planes k =
+    (k ≤ w) × (length planes ≡ length planes₀) × (planes ≡ put planes₀ 0 (tabulate k (plane w entries 0)))
 
 abbrev μ-loop : tie.MeasureT-loop
 μ-loop entries w planes₀ k₀ planes k = w - k
@@ -20,24 +22,6 @@ abbrev μ-loop : tie.MeasureT-loop
 loop-holds : tie.Need-loop-holds Inv-loop μ-loop
 unfolding tabulate
 loop-holds c = (omega arith, omega arith, put-none (c .before .before .args .planes .now) 0)
-
-sub-n : tie.Need-sub-n Inv-loop μ-loop
-sub-n c = search needs
-
-sub-n-2 : tie.Need-sub-n-2 Inv-loop μ-loop
-sub-n-2 c = search needs
-
-add-n : tie.Need-add-n Inv-loop μ-loop
-add-n c = search needs
-
-some-planes-requires : tie.Need-some-planes-requires Inv-loop μ-loop
-some-planes-requires c κs = search needs
-
-add-k : tie.Need-add-k Inv-loop μ-loop
-add-k c = search needs
-
-loop-less : tie.Need-loop-less Inv-loop μ-loop
-loop-less c = search needs
 
 loop-again : tie.Need-loop-again Inv-loop μ-loop
 loop-again c =
@@ -47,31 +31,21 @@ loop-again c =
     let more = c .before .before .some-planes in (
       omega arith,
       more .kept .1 .1 .1 .1 .0 ∙ l .inv .1,
-      more .ensures ∙ rw (l .inv .2) (put-tabulate-add (a .planes .now) (l .k) n (plane (a .w) (a .entries .now) 0) (omega arith)),
+      more .ensures
+          ∙ rw (l .inv .2)
+          (put-tabulate-add (a .planes .now) (l .k) n (plane (a .w) (a .entries .now) 0) (omega arith)),
     )
-
-same-length : tie.Need-same-length Inv-loop μ-loop
-same-length c = search needs
 
 returns : tie.Need-returns Inv-loop μ-loop
 returns c =
     let a = c .before .before .before .before .args in
     let all : c .before .loop .k ≡ a .w = omega arith in
-    c .before .loop .inv .2 ∙ ap (λ (n : ℕ). put (a .planes .now) 0 (tabulate n (plane (a .w) (a .entries .now) 0))) all
+    c .before .loop .inv .2
+    ∙ ap (λ (n : ℕ). put (a .planes .now) 0 (tabulate n (plane (a .w) (a .entries .now) 0))) all
 
 pub pack-group-spec : {M : Type 1} → statement M
 pack-group-spec =
     tie.close
     (tie.spec
-    Inv-loop
-    μ-loop
-    loop-holds
-    sub-n
-    sub-n-2
-    add-n
-    some-planes-requires
-    add-k
-    loop-less
-    loop-again
-    same-length
-    returns)
+    Inv-loop μ-loop loop-holds (λ c. search needs) (λ c. search needs) (λ c. search needs)
+    (λ c κs. search needs) (λ c. search needs) (λ c. search needs) loop-again (λ c. search needs) returns)

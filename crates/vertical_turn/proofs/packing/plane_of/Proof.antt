@@ -1,4 +1,5 @@
--- `vertical_turn::packing::plane_of` meets its contract: each turn doubles the bits of the entries behind and adds that of one before them.
+-- `vertical_turn::packing::plane_of` meets its contract: each turn doubles the bits of the entries behind and adds
+-- that of one before them.
 use mathlib.Core.Path.{_≡_, sym, ap, _∙_}
 use Prim.Native.Nat.{ℕ, _+_, _-_, _*_, _/_, _%_, _^_, _≤_, _<_}
 use native.Mathlib.Omega.{arith}
@@ -17,7 +18,8 @@ abbrev μ-loop : tie.MeasureT-loop
 -- the bits with one entry more, and that they fit
 more : (c : tie.After-shared-slice-known Inv-loop μ-loop)
     → let l = c .before .before .loop in let a = c .before .before .before .args in let b : ℕ = a .w - 1 - a .k in
-    (bitsOf b (drop (l .j - 1) (a .entries .now)) ≡ l .p * 2 + getD (a .entries .now) (l .j - 1) 0 / 2 ^ b % 2) × (bitsOf b (drop (l .j - 1) (a .entries .now)) < 2 ^ 64)
+    (bitsOf b (drop (l .j - 1) (a .entries .now)) ≡ l .p * 2 + getD (a .entries .now) (l .j - 1) 0 / 2 ^ b % 2)
+    × (bitsOf b (drop (l .j - 1) (a .entries .now)) < 2 ^ 64)
 more c =
     let l = c .before .before .loop in
     let a = c .before .before .before .args in
@@ -25,21 +27,13 @@ more c =
     let xs = a .entries .now in
     let e : l .j - 1 + 1 ≡ l .j = omega arith in (
       bitsOf-step b xs (l .j - 1) (omega arith)
-          ∙ ap (λ (x : ℕ). x * 2 + getD xs (l .j - 1) 0 / 2 ^ b % 2) (ap (λ (j : ℕ). bitsOf b (drop j xs)) e ∙ sym (l .inv .1)),
+          ∙ ap (λ (x : ℕ). x * 2 + getD xs (l .j - 1) 0 / 2 ^ b % 2)
+          (ap (λ (j : ℕ). bitsOf b (drop j xs)) e ∙ sym (l .inv .1)),
       bitsOf-fits b xs (l .j - 1) (omega arith),
     )
 
 loop-holds : tie.Need-loop-holds Inv-loop μ-loop
 loop-holds c = (omega arith, sym (bitsOf-none (c .args .w - 1 - c .args .k) (c .args .entries .now)))
-
-sub-j : tie.Need-sub-j Inv-loop μ-loop
-sub-j c = search needs
-
-mul-x : tie.Need-mul-x Inv-loop μ-loop
-mul-x c = search needs
-
-shared-slice-read-x : tie.Need-shared-slice-read-x Inv-loop μ-loop
-shared-slice-read-x c = search needs
 
 cast-x : tie.Need-cast-x Inv-loop μ-loop
 cast-x c = omega (arith, c .shared-slice-known .given (c .before .before .loop .j - 1))
@@ -47,20 +41,8 @@ cast-x c = omega (arith, c .shared-slice-known .given (c .before .before .loop .
 mul-p : tie.Need-mul-p Inv-loop μ-loop
 mul-p c = omega (arith, more c)
 
-sub-p : tie.Need-sub-p Inv-loop μ-loop
-sub-p c = search needs
-
-sub-p-2 : tie.Need-sub-p-2 Inv-loop μ-loop
-sub-p-2 c = search needs
-
-shr-p : tie.Need-shr-p Inv-loop μ-loop
-shr-p c = search needs
-
 add-p : tie.Need-add-p Inv-loop μ-loop
 add-p c = omega (arith, more c)
-
-loop-less : tie.Need-loop-less Inv-loop μ-loop
-loop-less c = search needs
 
 loop-again : tie.Need-loop-again Inv-loop μ-loop
 loop-again c = (omega arith, sym (more c .0))
@@ -70,24 +52,13 @@ returns c =
     let a = c .before .before .args in
     let b : ℕ = a .w - 1 - a .k in
     let e : c .before .loop .j ≡ 0 = omega arith in
-    c .before .loop .inv .1 ∙ ap (λ (j : ℕ). bitsOf b (drop j (a .entries .now))) e ∙ bitsOf-plane (a .w) (a .entries .now) (a .k) (omega arith)
+    c .before .loop .inv .1 ∙ ap (λ (j : ℕ). bitsOf b (drop j (a .entries .now))) e
+    ∙ bitsOf-plane (a .w) (a .entries .now) (a .k) (omega arith)
 
 pub plane-of-spec : {M : Type 1} → statement M
 plane-of-spec =
     tie.close
     (tie.spec
-    Inv-loop
-    μ-loop
-    loop-holds
-    sub-j
-    mul-x
-    shared-slice-read-x
-    cast-x
-    mul-p
-    sub-p
-    sub-p-2
-    shr-p
-    add-p
-    loop-less
-    loop-again
+    Inv-loop μ-loop loop-holds (λ c. search needs) (λ c. search needs) (λ c. search needs) cast-x mul-p
+    (λ c. search needs) (λ c. search needs) (λ c. search needs) add-p (λ c. search needs) loop-again
     returns)

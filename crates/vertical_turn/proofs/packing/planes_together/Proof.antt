@@ -9,44 +9,18 @@ use borrow.Author.Needs.{needs}
 use Rattle.vertical_turn.proofs.packing.planes_together.Statement.{statement}
 use Rattle.vertical_turn.proofs.packing.planes_together.Tie as tie
 
-sub-gather : tie.Need-sub-gather
-sub-gather c = search needs
-
-sub-gather-2 : tie.Need-sub-gather-2
-sub-gather-2 c = search needs
-
-slice-aggregate-gather : tie.Need-slice-aggregate-gather
-slice-aggregate-gather c = search needs
-
-gather-requires : tie.Need-gather-requires
-gather-requires c κs = search needs
-
-slice-aggregate-lay : tie.Need-slice-aggregate-lay
-slice-aggregate-lay c = search needs
-
-lay-requires : tie.Need-lay-requires
-lay-requires c κs = search needs
-
-same-length : tie.Need-same-length
-same-length c = search needs
-
 returns : tie.Need-returns
 returns c =
     let a = c .before .before .before .before .before .before .before .before .before .before .args in
     let l = a .planes .now in
     c .before .before .lay .ensures
-    ∙ ap (λ (ws : List ℕ). put l (a .k) (tabulate (a .n) (turnedDown ws (a .n)))) (c .before .before .before .before .before .before .gather .ensures)
+    ∙ ap (λ (ws : List ℕ). put l (a .k) (tabulate (a .n) (turnedDown ws (a .n))))
+    (c .before .before .before .before .before .before .gather .ensures)
     ∙ ap (put l (a .k)) (laid-planes (a .entries .now) _ (a .w) (a .k) (a .n) (omega arith) (omega arith))
 
 pub planes-together-spec : {M : Type 1} → statement M
 planes-together-spec =
     tie.close
     (tie.spec
-    sub-gather
-    sub-gather-2
-    slice-aggregate-gather
-    gather-requires
-    slice-aggregate-lay
-    lay-requires
-    same-length
-    returns)
+    (λ c. search needs) (λ c. search needs) (λ c. search needs) (λ c κs. search needs) (λ c. search needs)
+    (λ c κs. search needs) (λ c. search needs) returns)

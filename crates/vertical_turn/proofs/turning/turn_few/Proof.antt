@@ -12,7 +12,8 @@ use Rattle.vertical_turn.proofs.turning.turn_few.Statement.{statement}
 use Rattle.vertical_turn.proofs.turning.turn_few.Tie as tie
 
 abbrev Inv-loop : tie.InvT-loop
-Inv-loop words at n out₀ i₀ out i = (i ≤ 8) × (length out ≡ length out₀) × (out ≡ put out₀ 0 (tabulate i (turned words at n)))
+Inv-loop words at n out₀ i₀ out i =
+    (i ≤ 8) × (length out ≡ length out₀) × (out ≡ put out₀ 0 (tabulate i (turned words at n)))
 
 abbrev μ-loop : tie.MeasureT-loop
 μ-loop words at n out₀ i₀ out i = 8 - i
@@ -21,32 +22,15 @@ loop-holds : tie.Need-loop-holds Inv-loop μ-loop
 unfolding tabulate
 loop-holds c = (omega arith, omega arith, put-none (c .before .before .args .out .now) 0)
 
-turn-one-requires : tie.Need-turn-one-requires Inv-loop μ-loop
-turn-one-requires c κs = search needs
-
-mul-out : tie.Need-mul-out Inv-loop μ-loop
-mul-out c = search needs
-
-slice-write-out : tie.Need-slice-write-out Inv-loop μ-loop
-slice-write-out c = search needs
-
-add-i : tie.Need-add-i Inv-loop μ-loop
-add-i c = search needs
-
-loop-less : tie.Need-loop-less Inv-loop μ-loop
-loop-less c = search needs
-
 loop-again : tie.Need-loop-again Inv-loop μ-loop
 loop-again c =
     let a = c .before .before .before .before .before .args in
     let l = c .before .before .loop in (
       omega arith,
       simp length-set (l .inv .1),
-      rw (l .inv .2, c .turn-one .ensures) (put-tabulate (a .out .now) (l .i) (turned (a .words .now) (a .at) (a .n)) (omega arith)),
+      rw (l .inv .2, c .turn-one .ensures)
+          (put-tabulate (a .out .now) (l .i) (turned (a .words .now) (a .at) (a .n)) (omega arith)),
     )
-
-same-length : tie.Need-same-length Inv-loop μ-loop
-same-length c = search needs
 
 returns : tie.Need-returns Inv-loop μ-loop
 returns c =
@@ -57,14 +41,5 @@ pub turn-few-spec : {M : Type 1} → statement M
 turn-few-spec =
     tie.close
     (tie.spec
-    Inv-loop
-    μ-loop
-    loop-holds
-    turn-one-requires
-    mul-out
-    slice-write-out
-    add-i
-    loop-less
-    loop-again
-    same-length
-    returns)
+    Inv-loop μ-loop loop-holds (λ c κs. search needs) (λ c. search needs) (λ c. search needs)
+    (λ c. search needs) (λ c. search needs) loop-again (λ c. search needs) returns)

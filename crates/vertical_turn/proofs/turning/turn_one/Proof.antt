@@ -1,4 +1,5 @@
--- `vertical_turn::turning::turn_one` meets its contract: each turn doubles every byte and adds a bit of one word more to it.
+-- `vertical_turn::turning::turn_one` meets its contract: each turn doubles every byte and adds a bit of one word
+-- more to it.
 use mathlib.Core.Path.{_≡_, sym, ap, _∙_}
 use Prim.Native.Nat.{ℕ, _+_, _-_, _≤_}
 use native.Mathlib.Omega.{arith}
@@ -20,31 +21,21 @@ mul-x : tie.Need-mul-x Inv-loop μ-loop
 mul-x c =
     let a = c .before .before .args in
     let l = c .before .loop in
-    omega (arith, turned-next (a .words .now) (a .at) (l .k) (a .i), turned-fits (a .words .now) (a .at) (l .k + 1) (a .i) (omega arith))
-
-add-x : tie.Need-add-x Inv-loop μ-loop
-add-x c = search needs
-
-mul-x-2 : tie.Need-mul-x-2 Inv-loop μ-loop
-mul-x-2 c = search needs
-
-shared-slice-read-x : tie.Need-shared-slice-read-x Inv-loop μ-loop
-shared-slice-read-x c = search needs
-
-shr-x : tie.Need-shr-x Inv-loop μ-loop
-shr-x c = search needs
+    omega (
+      arith,
+      turned-next (a .words .now) (a .at) (l .k) (a .i),
+      turned-fits (a .words .now) (a .at) (l .k + 1) (a .i) (omega arith),
+    )
 
 add-x-2 : tie.Need-add-x-2 Inv-loop μ-loop
 add-x-2 c =
     let a = c .before .before .before .args in
     let l = c .before .before .loop in
-    omega (arith, turned-next (a .words .now) (a .at) (l .k) (a .i), turned-fits (a .words .now) (a .at) (l .k + 1) (a .i) (omega arith))
-
-add-k : tie.Need-add-k Inv-loop μ-loop
-add-k c = search needs
-
-loop-less : tie.Need-loop-less Inv-loop μ-loop
-loop-less c = search needs
+    omega (
+      arith,
+      turned-next (a .words .now) (a .at) (l .k) (a .i),
+      turned-fits (a .words .now) (a .at) (l .k + 1) (a .i) (omega arith),
+    )
 
 loop-again : tie.Need-loop-again Inv-loop μ-loop
 loop-again c =
@@ -62,16 +53,5 @@ pub turn-one-spec : {M : Type 1} → statement M
 turn-one-spec =
     tie.close
     (tie.spec
-    Inv-loop
-    μ-loop
-    loop-holds
-    mul-x
-    add-x
-    mul-x-2
-    shared-slice-read-x
-    shr-x
-    add-x-2
-    add-k
-    loop-less
-    loop-again
-    returns)
+    Inv-loop μ-loop loop-holds mul-x (λ c. search needs) (λ c. search needs) (λ c. search needs)
+    (λ c. search needs) add-x-2 (λ c. search needs) (λ c. search needs) loop-again returns)

@@ -11,7 +11,8 @@ use Rattle.vertical_turn.proofs.unpacking.clear.Statement.{statement}
 use Rattle.vertical_turn.proofs.unpacking.clear.Tie as tie
 
 abbrev Inv-loop : tie.InvT-loop
-Inv-loop m entries₀ j₀ entries j = (j ≤ m) × (length entries ≡ length entries₀) × (entries ≡ put entries₀ 0 (tabulate j (λ i. 0)))
+Inv-loop m entries₀ j₀ entries j =
+    (j ≤ m) × (length entries ≡ length entries₀) × (entries ≡ put entries₀ 0 (tabulate j (λ i. 0)))
 
 abbrev μ-loop : tie.MeasureT-loop
 μ-loop m entries₀ j₀ entries j = m - j
@@ -20,18 +21,6 @@ loop-holds : tie.Need-loop-holds Inv-loop μ-loop
 unfolding tabulate
 loop-holds c = (omega arith, omega arith, put-none (c .args .entries .now) 0)
 
-mul-entries : tie.Need-mul-entries Inv-loop μ-loop
-mul-entries c = search needs
-
-slice-write-entries : tie.Need-slice-write-entries Inv-loop μ-loop
-slice-write-entries c = search needs
-
-add-j : tie.Need-add-j Inv-loop μ-loop
-add-j c = search needs
-
-loop-less : tie.Need-loop-less Inv-loop μ-loop
-loop-less c = search needs
-
 loop-again : tie.Need-loop-again Inv-loop μ-loop
 loop-again c =
     let l = c .before .loop in (
@@ -39,9 +28,6 @@ loop-again c =
       simp length-set (l .inv .1),
       rw (l .inv .2) (put-tabulate (c .before .before .args .entries .now) (l .j) (λ i. 0) (omega arith)),
     )
-
-same-length : tie.Need-same-length Inv-loop μ-loop
-same-length c = search needs
 
 returns : tie.Need-returns Inv-loop μ-loop
 returns c =
@@ -52,13 +38,5 @@ pub clear-spec : {M : Type 1} → statement M
 clear-spec =
     tie.close
     (tie.spec
-    Inv-loop
-    μ-loop
-    loop-holds
-    mul-entries
-    slice-write-entries
-    add-j
-    loop-less
-    loop-again
-    same-length
-    returns)
+    Inv-loop μ-loop loop-holds (λ c. search needs) (λ c. search needs) (λ c. search needs)
+    (λ c. search needs) loop-again (λ c. search needs) returns)

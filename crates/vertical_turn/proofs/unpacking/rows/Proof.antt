@@ -1,4 +1,5 @@
--- `vertical_turn::unpacking::rows` meets its contract: each turn fills eight places more, and the last row those that are left.
+-- `vertical_turn::unpacking::rows` meets its contract: each turn fills eight places more, and the last row those
+-- that are left.
 use mathlib.Core.Path.{_≡_, ap, _∙_}
 use Prim.Native.Nat.{ℕ, _+_, _-_, _%_, _≤_}
 use native.Mathlib.Omega.{arith}
@@ -11,7 +12,9 @@ use Rattle.vertical_turn.proofs.unpacking.rows.Statement.{statement}
 use Rattle.vertical_turn.proofs.unpacking.rows.Tie as tie
 
 abbrev Inv-loop : tie.InvT-loop
-Inv-loop words m entries₀ from₀ entries from = (from ≤ m) × (from % 8 ≡ 0) × (length entries ≡ length entries₀) × (entries ≡ put entries₀ 0 (tabulate from (grown words entries₀)))
+Inv-loop words m entries₀ from₀ entries from =
+    (from ≤ m) × (from % 8 ≡ 0) × (length entries ≡ length entries₀)
+    × (entries ≡ put entries₀ 0 (tabulate from (grown words entries₀)))
 
 abbrev μ-loop : tie.MeasureT-loop
 μ-loop words m entries₀ from₀ entries from = m - from
@@ -19,18 +22,6 @@ abbrev μ-loop : tie.MeasureT-loop
 loop-holds : tie.Need-loop-holds Inv-loop μ-loop
 unfolding tabulate
 loop-holds c = (omega arith, omega arith, omega arith, put-none (c .before .before .args .entries .now) 0)
-
-add-loop : tie.Need-add-loop Inv-loop μ-loop
-add-loop c = search needs
-
-row-requires : tie.Need-row-requires Inv-loop μ-loop
-row-requires c κs = search needs
-
-add-from : tie.Need-add-from Inv-loop μ-loop
-add-from c = search needs
-
-loop-less : tie.Need-loop-less Inv-loop μ-loop
-loop-less c = search needs
 
 loop-again : tie.Need-loop-again Inv-loop μ-loop
 loop-again c =
@@ -40,17 +31,10 @@ loop-again c =
       omega arith,
       omega arith,
       put-row .kept .1 .1 .1 .0 ∙ l .inv .2,
-      put-row .ensures ∙ rw (l .inv .3) (next-row (a .words .now) (a .entries .now) (l .from) 8 (omega arith) (omega arith) (omega arith)),
+      put-row .ensures
+          ∙ rw (l .inv .3)
+          (next-row (a .words .now) (a .entries .now) (l .from) 8 (omega arith) (omega arith) (omega arith)),
     )
-
-sub-row : tie.Need-sub-row Inv-loop μ-loop
-sub-row c = search needs
-
-row-requires-2 : tie.Need-row-requires-2 Inv-loop μ-loop
-row-requires-2 c κs = search needs
-
-same-length : tie.Need-same-length Inv-loop μ-loop
-same-length c = search needs
 
 returns : tie.Need-returns Inv-loop μ-loop
 returns c =
@@ -58,22 +42,14 @@ returns c =
     let l = c .before .before .before .before .before .loop in
     let all : l .from + (a .m - l .from) ≡ a .m = omega arith in
     c .before .before .row2 .ensures
-    ∙ rw (l .inv .3) (next-row (a .words .now) (a .entries .now) (l .from) (a .m - l .from) (omega arith) (omega arith) (omega arith))
+    ∙ rw (l .inv .3)
+    (next-row (a .words .now) (a .entries .now) (l .from) (a .m - l .from) (omega arith) (omega arith)
+    (omega arith))
     ∙ ap (λ (n : ℕ). put (a .entries .now) 0 (tabulate n (grown (a .words .now) (a .entries .now)))) all
 
 pub rows-spec : {M : Type 1} → statement M
 rows-spec =
     tie.close
     (tie.spec
-    Inv-loop
-    μ-loop
-    loop-holds
-    add-loop
-    row-requires
-    add-from
-    loop-less
-    loop-again
-    sub-row
-    row-requires-2
-    same-length
-    returns)
+    Inv-loop μ-loop loop-holds (λ c. search needs) (λ c κs. search needs) (λ c. search needs)
+    (λ c. search needs) loop-again (λ c. search needs) (λ c κs. search needs) (λ c. search needs) returns)

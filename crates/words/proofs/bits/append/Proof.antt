@@ -12,51 +12,31 @@ use Rattle.words.proofs.bits.append.Tie as tie
 shifted : (x r m : ℕ) → r < 8 → m ≤ 56 → x < 2 ^ m → (x * 2 ^ r) % 2 ^ 64 ≡ x * 2 ^ r
 shifted x r m hr hm h = shl-exact m r 64 h (omega arith)
 
-head-requires : tie.Need-head-requires
-head-requires c κs = search needs
-
-shl-store-low : tie.Need-shl-store-low
-shl-store-low c = search needs
-
 add-store-low : tie.Need-add-store-low
 add-store-low c =
     let a = c .before .before .before .before .args in
     let low : c .before .head .result < 2 ^ a .r = rw (c .before .head .ensures) (mod-lt _ (pow-pos (a .r))) in
     rw (shifted (a .x) (a .r) (a .m) (omega arith) (omega arith) (c .before .before .before .before .pre .2))
-    (omega (arith, shl-lt (a .m) (a .r) (c .before .before .before .before .pre .2), pow-mono {i = a .m + a .r} {j = 63} (omega arith), pow-mono {i = a .r} {j = 8} (omega arith)))
-
-add-store-low-2 : tie.Need-add-store-low-2
-add-store-low-2 c = search needs
-
-add-store-low-3 : tie.Need-add-store-low-3
-add-store-low-3 c = search needs
-
-cast-store-low : tie.Need-cast-store-low
-cast-store-low c = search needs
-
-store-low-requires : tie.Need-store-low-requires
-store-low-requires c κs = search needs
-
-same-length : tie.Need-same-length
-same-length c = search needs
+    (omega (
+      arith,
+      shl-lt (a .m) (a .r) (c .before .before .before .before .pre .2),
+      pow-mono {i = a .m + a .r} {j = 63} (omega arith),
+      pow-mono {i = a .r} {j = 8} (omega arith),
+    ))
 
 returns : tie.Need-returns
 returns c =
     let s = c .before .before .before .before .before .before .before in
     let a = s .args in
     c .before .before .store-low .ensures
-    ∙ rw (shifted (a .x) (a .r) (a .m) (omega arith) (omega arith) (s .pre .2), c .before .before .before .before .head .ensures)
+    ∙ rw (
+      shifted (a .x) (a .r) (a .m) (omega arith) (omega arith) (s .pre .2),
+      c .before .before .before .before .head .ensures,
+    )
 
 pub append-spec : {M : Type 1} → statement M
 append-spec =
     tie.close
     (tie.spec
-    head-requires
-    shl-store-low
-    add-store-low
-    add-store-low-2
-    add-store-low-3
-    cast-store-low
-    store-low-requires
-    same-length
-    returns)
+    (λ c κs. search needs) (λ c. search needs) add-store-low (λ c. search needs) (λ c. search needs)
+    (λ c. search needs) (λ c κs. search needs) (λ c. search needs) returns)

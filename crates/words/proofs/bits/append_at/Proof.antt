@@ -1,4 +1,5 @@
--- `words::bits::append_at` meets its contract: the part from a byte on is the list's rest, and comes back in its place.
+-- `words::bits::append_at` meets its contract: the part from a byte on is the list's rest, and comes back in its
+-- place.
 use mathlib.Core.Path.{ap, _∙_}
 use mathlib.Core.List.{List, _++_}
 use Prim.Native.Nat.{ℕ, _/_}
@@ -8,24 +9,6 @@ use Rattle.words.specs.Appended.{appended}
 use Rattle.words.specs.Puts.{part-rest, back-rest}
 use Rattle.words.proofs.bits.append_at.Statement.{statement}
 use Rattle.words.proofs.bits.append_at.Tie as tie
-
-sub-append : tie.Need-sub-append
-sub-append c = search needs
-
-part-append-start : tie.Need-part-append-start
-part-append-start c = search needs
-
-part-append-end : tie.Need-part-append-end
-part-append-end c = search needs
-
-cast-append : tie.Need-cast-append
-cast-append c = search needs
-
-append-requires : tie.Need-append-requires
-append-requires c κs = search needs
-
-same-length : tie.Need-same-length
-same-length c = search needs
 
 returns : tie.Need-returns
 unfolding appended
@@ -39,10 +22,5 @@ pub append-at-spec : {M : Type 1} → statement M
 append-at-spec =
     tie.close
     (tie.spec
-    sub-append
-    part-append-start
-    part-append-end
-    cast-append
-    append-requires
-    same-length
-    returns)
+    (λ c. search needs) (λ c. search needs) (λ c. search needs) (λ c. search needs) (λ c κs. search needs)
+    (λ c. search needs) returns)

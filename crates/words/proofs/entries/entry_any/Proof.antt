@@ -1,4 +1,5 @@
--- `words::entries::entry_any` meets its contract: a window of eight bytes holds the bits, which begin in its first byte.
+-- `words::entries::entry_any` meets its contract: a window of eight bytes holds the bits, which begin in its first
+-- byte.
 use Prim.Native.Nat.{ℕ, _*_, _/_, _%_, _^_}
 use mathlib.Core.Path.{_≡_, ap, _∙_}
 use native.Mathlib.Nat.{lt-of-lt-of-le}
@@ -13,7 +14,9 @@ use borrow.Author.Needs.{needs}
 use Rattle.words.proofs.entries.entry_any.Statement.{statement}
 use Rattle.words.proofs.entries.entry_any.Tie as tie
 
-value : (c : tie.After-load-any) → let a = c .before .before .args in c .load-any .result / 2 ^ (a .k % 8) % ((1 * 2 ^ a .w) % 2 ^ 64) ≡ field lowFirst (a .page .now) (a .k) (a .w)
+value : (c : tie.After-load-any)
+    → let a = c .before .before .args in
+    c .load-any .result / 2 ^ (a .k % 8) % ((1 * 2 ^ a .w) % 2 ^ 64) ≡ field lowFirst (a .page .now) (a .k) (a .w)
 value c =
     let a = c .before .before .args in
     let l = a .page .now in
@@ -21,26 +24,22 @@ value c =
     (window l (a .k / 8) 8 (a .k % 8) (a .w) (λ k. c .before .shared-slice-known .given k .fits) (omega arith)
     ∙ ap (λ (k : ℕ). field lowFirst l k (a .w)) (omega arith))
 
-load-any-requires : tie.Need-load-any-requires
-load-any-requires c κs = search needs
-
-shr-result : tie.Need-shr-result
-shr-result c = search needs
-
-shl-result : tie.Need-shl-result
-shl-result c = search needs
-
 rem-result : tie.Need-rem-result
 rem-result c = rw (one-shl 64 (c .before .before .args .w) (omega arith)) (pow-pos (c .before .before .args .w))
 
 cast-result : tie.Need-cast-result
 cast-result c =
     let a = c .before .before .args in
-    record { fits = rw (value c) (lt-of-lt-of-le (piece-lt 8 (a .page .now) (a .k) (a .w)) (pow-mono {i = a .w} {j = 32} (omega arith))) }
+    record {
+      fits = rw (value c)
+          (lt-of-lt-of-le (piece-lt 8 (a .page .now) (a .k) (a .w)) (pow-mono {i = a .w} {j = 32} (omega arith)));
+    }
 
 returns : tie.Need-returns
 returns c = value c
 
 pub entry-any-spec : {M : Type 1} → statement M
 entry-any-spec =
-    tie.close (tie.spec load-any-requires shr-result shl-result rem-result cast-result returns)
+    tie.close
+    (tie.spec
+    (λ c κs. search needs) (λ c. search needs) (λ c. search needs) rem-result cast-result returns)

@@ -12,18 +12,6 @@ use Rattle.words.specs.Entries.{window}
 use Rattle.words.proofs.entries.entry_in.Statement.{statement}
 use Rattle.words.proofs.entries.entry_in.Tie as tie
 
-add-load8 : tie.Need-add-load8
-add-load8 c = search needs
-
-load8-requires : tie.Need-load8-requires
-load8-requires c κs = search needs
-
-shr-result : tie.Need-shr-result
-shr-result c = search needs
-
-shl-result : tie.Need-shl-result
-shl-result c = search needs
-
 rem-result : tie.Need-rem-result
 rem-result c =
     rw (one-shl 64 (c .before .before .args .w) (omega arith)) (pow-pos (c .before .before .args .w))
@@ -31,7 +19,10 @@ rem-result c =
 cast-result : tie.Need-cast-result
 cast-result c =
     let w = c .before .before .args .w in
-    record { fits = rw (one-shl 64 w (omega arith)) (lt-of-lt-of-le (mod-lt _ (pow-pos w)) (pow-mono {i = w} {j = 32} (omega arith))) }
+    record {
+      fits = rw (one-shl 64 w (omega arith))
+          (lt-of-lt-of-le (mod-lt _ (pow-pos w)) (pow-mono {i = w} {j = 32} (omega arith)));
+    }
 
 returns : tie.Need-returns
 returns c =
@@ -44,4 +35,6 @@ returns c =
 pub entry-in-spec : {M : Type 1} → statement M
 entry-in-spec =
     tie.close
-    (tie.spec add-load8 load8-requires shr-result shl-result rem-result cast-result returns)
+    (tie.spec
+    (λ c. search needs) (λ c κs. search needs) (λ c. search needs) (λ c. search needs) rem-result
+    cast-result returns)

@@ -6,17 +6,8 @@ use Rattle.words.specs.Bytes.{number-add, number-one}
 use Rattle.words.proofs.loads.load2.Statement.{statement}
 use Rattle.words.proofs.loads.load2.Tie as tie
 
-shared-slice-read-result : tie.Need-shared-slice-read-result
-shared-slice-read-result c = search needs
-
 cast-result : tie.Need-cast-result
 cast-result c = omega (arith, c .shared-slice-known .given (c .before .args .at))
-
-add-result : tie.Need-add-result
-add-result c = search needs
-
-shared-slice-read-result-2 : tie.Need-shared-slice-read-result-2
-shared-slice-read-result-2 c = search needs
 
 cast-result-2 : tie.Need-cast-result-2
 cast-result-2 c = omega (arith, c .shared-slice-known2 .given (c .before .before .args .at + 1))
@@ -33,17 +24,16 @@ returns : tie.Need-returns
 returns c =
     let at = c .before .before .args .at in
     let s = c .before .before .args .s .now in
-    omega (arith, number-add s at 1 1 (omega arith), number-one s at (omega arith), number-one s (at + 1) (omega arith))
+    omega (
+      arith,
+      number-add s at 1 1 (omega arith),
+      number-one s at (omega arith),
+      number-one s (at + 1) (omega arith),
+    )
 
 pub load2-spec : {M : Type 1} → statement M
 load2-spec =
     tie.close
     (tie.spec
-    shared-slice-read-result
-    cast-result
-    add-result
-    shared-slice-read-result-2
-    cast-result-2
-    mul-result
-    add-result-2
-    returns)
+    (λ c. search needs) cast-result (λ c. search needs) (λ c. search needs) cast-result-2 mul-result
+    add-result-2 returns)

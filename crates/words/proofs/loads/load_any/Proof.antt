@@ -13,25 +13,18 @@ use Rattle.words.proofs.loads.load_any.Tie as tie
 returns : tie.Need-returns
 returns c =
     let a = c .before .before .args in
-    sym (ap number (take-all 8 (drop (a .at) (a .s .now)) (omega (arith, length-drop (a .at) (a .s .now)))) ∙ number-end (a .s .now) (a .at) (omega arith))
-
-sub-if2 : tie.Need-sub-if2
-sub-if2 c = search needs
-
-load-tail-requires : tie.Need-load-tail-requires
-load-tail-requires c κs = search needs
+    sym
+    (ap number (take-all 8 (drop (a .at) (a .s .now)) (omega (arith, length-drop (a .at) (a .s .now))))
+    ∙ number-end (a .s .now) (a .at) (omega arith))
 
 returns-2 : tie.Need-returns-2
 returns-2 c =
     let a = c .before .before .before .before .args in
-    c .load-tail .ensures ∙ ap number (sym (take-all 8 (drop (a .at) (a .s .now)) (omega (arith, length-drop (a .at) (a .s .now)))))
-
-load8-requires : tie.Need-load8-requires
-load8-requires c κs = search needs
-
-returns-3 : tie.Need-returns-3
-returns-3 c = search needs
+    c .load-tail .ensures
+    ∙ ap number (sym (take-all 8 (drop (a .at) (a .s .now)) (omega (arith, length-drop (a .at) (a .s .now)))))
 
 pub load-any-spec : {M : Type 1} → statement M
 load-any-spec =
-    tie.close (tie.spec returns sub-if2 load-tail-requires returns-2 load8-requires returns-3)
+    tie.close
+    (tie.spec
+    returns (λ c. search needs) (λ c κs. search needs) returns-2 (λ c κs. search needs) (λ c. search needs))

@@ -16,24 +16,20 @@ Inv-loop s at x₀ k₀ x k = (at ≤ k) × (k ≤ length s) × (x ≡ number (d
 abbrev μ-loop : tie.MeasureT-loop
 μ-loop s at x₀ k₀ x k = k
 
-more : (c : tie.After-shared-slice-known Inv-loop μ-loop) → let l = c .before .before .loop in let s = c .before .before .before .args .s .now in
+more : (c : tie.After-shared-slice-known Inv-loop μ-loop)
+    → let l = c .before .before .loop in let s = c .before .before .before .args .s .now in
     (number (drop (l .k - 1) s) ≡ l .x * 256 + getD s (l .k - 1) 0) × (number (drop (l .k - 1) s) < 2 ^ 64)
 more c =
     let l = c .before .before .loop in
     let s = c .before .before .before .args .s .now in
     let e : l .k - 1 + 1 ≡ l .k = omega arith in (
-      number-step s (l .k - 1) (omega arith) ∙ ap (λ (x : ℕ). x * 256 + getD s (l .k - 1) 0) (ap (λ (k : ℕ). number (drop k s)) e ∙ sym (l .inv .2)),
+      number-step s (l .k - 1) (omega arith)
+          ∙ ap (λ (x : ℕ). x * 256 + getD s (l .k - 1) 0) (ap (λ (k : ℕ). number (drop k s)) e ∙ sym (l .inv .2)),
       number-short s (l .k - 1) (λ k. c .shared-slice-known .given k .fits) (omega arith),
     )
 
 loop-holds : tie.Need-loop-holds Inv-loop μ-loop
 loop-holds c = (omega arith, omega arith, let s = c .args .s .now in sym (number-end s (length s) (omega arith)))
-
-sub-k : tie.Need-sub-k Inv-loop μ-loop
-sub-k c = search needs
-
-shared-slice-read-b : tie.Need-shared-slice-read-b Inv-loop μ-loop
-shared-slice-read-b c = search needs
 
 cast-b : tie.Need-cast-b Inv-loop μ-loop
 cast-b c = omega (arith, c .shared-slice-known .given (c .before .before .loop .k - 1))
@@ -43,9 +39,6 @@ mul-x c = omega (arith, more c)
 
 add-x : tie.Need-add-x Inv-loop μ-loop
 add-x c = omega (arith, more c)
-
-loop-less : tie.Need-loop-less Inv-loop μ-loop
-loop-less c = omega arith
 
 loop-again : tie.Need-loop-again Inv-loop μ-loop
 loop-again c = (omega arith, omega arith, sym (more c .0))
@@ -59,14 +52,5 @@ pub load-tail-spec : {M : Type 1} → statement M
 load-tail-spec =
     tie.close
     (tie.spec
-    Inv-loop
-    μ-loop
-    loop-holds
-    sub-k
-    shared-slice-read-b
-    cast-b
-    mul-x
-    add-x
-    loop-less
-    loop-again
-    returns)
+    Inv-loop μ-loop loop-holds (λ c. search needs) (λ c. search needs) cast-b mul-x add-x (λ c. omega arith)
+    loop-again returns)

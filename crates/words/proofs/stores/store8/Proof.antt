@@ -5,24 +5,6 @@ use Rattle.words.specs.Bytes.{put-bytes}
 use Rattle.words.proofs.stores.store8.Statement.{statement}
 use Rattle.words.proofs.stores.store8.Tie as tie
 
-cast-store4 : tie.Need-cast-store4
-cast-store4 c = search needs
-
-store4-requires : tie.Need-store4-requires
-store4-requires c κs = search needs
-
-add-store4 : tie.Need-add-store4
-add-store4 c = search needs
-
-cast-store4-2 : tie.Need-cast-store4-2
-cast-store4-2 c = search needs
-
-store4-requires-2 : tie.Need-store4-requires-2
-store4-requires-2 c κs = search needs
-
-same-length : tie.Need-same-length
-same-length c = search needs
-
 returns : tie.Need-returns
 returns c =
     let a = c .before .before .before .before .before .before .before .before .before .args in
@@ -32,10 +14,5 @@ pub store8-spec : {M : Type 1} → statement M
 store8-spec =
     tie.close
     (tie.spec
-    cast-store4
-    store4-requires
-    add-store4
-    cast-store4-2
-    store4-requires-2
-    same-length
-    returns)
+    (λ c. search needs) (λ c κs. search needs) (λ c. search needs) (λ c. search needs)
+    (λ c κs. search needs) (λ c. search needs) returns)

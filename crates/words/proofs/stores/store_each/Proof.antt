@@ -22,21 +22,6 @@ unfolding bytes
 loop-holds c =
     (omega arith, omega arith, sym (div-one (c .args .x)), put-none (c .args .s .now) (c .args .at))
 
-cast-s : tie.Need-cast-s Inv-loop μ-loop
-cast-s c = omega arith
-
-add-s : tie.Need-add-s Inv-loop μ-loop
-add-s c = omega arith
-
-slice-write-s : tie.Need-slice-write-s Inv-loop μ-loop
-slice-write-s c = omega arith
-
-add-k : tie.Need-add-k Inv-loop μ-loop
-add-k c = omega arith
-
-loop-less : tie.Need-loop-less Inv-loop μ-loop
-loop-less c = omega arith
-
 loop-again : tie.Need-loop-again Inv-loop μ-loop
 loop-again c =
     let l = c .before .loop in
@@ -47,9 +32,6 @@ loop-again c =
       rw (l .inv .3, l .inv .2) (put-next (a .s .now) (a .at) (l .k) (a .x) (omega arith)),
     )
 
-same-length : tie.Need-same-length Inv-loop μ-loop
-same-length c = omega arith
-
 returns : tie.Need-returns Inv-loop μ-loop
 returns c =
     let all : c .before .loop .k ≡ c .before .before .args .n = omega arith in
@@ -59,14 +41,5 @@ pub store-each-spec : {M : Type 1} → statement M
 store-each-spec =
     tie.close
     (tie.spec
-    Inv-loop
-    μ-loop
-    loop-holds
-    cast-s
-    add-s
-    slice-write-s
-    add-k
-    loop-less
-    loop-again
-    same-length
-    returns)
+    Inv-loop μ-loop loop-holds (λ c. omega arith) (λ c. omega arith) (λ c. omega arith) (λ c. omega arith)
+    (λ c. omega arith) loop-again (λ c. omega arith) returns)

@@ -3,11 +3,8 @@ use borrow.Author.Needs.{needs}
 use Rattle.scan_day.proofs.passing.Day.loses.Statement.{statement}
 use Rattle.scan_day.proofs.passing.Day.loses.Tie as tie
 
-one-more-requires : tie.Need-one-more-requires
-one-more-requires c κs = search needs
-
 returns : tie.Need-returns
 returns c = rw (c .one-more .ensures)
 
 pub loses-spec : {M : Type 1} → statement M
-loses-spec = tie.close (tie.spec one-more-requires returns)
+loses-spec = tie.close (tie.spec (λ c κs. search needs) returns)

@@ -5,9 +5,6 @@ use borrow.Author.Needs.{needs}
 use Rattle.scan_day.proofs.passing.Day.selects.Statement.{statement}
 use Rattle.scan_day.proofs.passing.Day.selects.Tie as tie
 
-one-more-requires : tie.Need-one-more-requires
-one-more-requires c κs = search needs
-
 returns : tie.Need-returns
 returns c = rw (c .before .one-more .ensures, eq-eqb (c .before .before .args .self .count) 0 (omega arith))
 
@@ -15,4 +12,4 @@ returns-2 : tie.Need-returns-2
 returns-2 c = rw (c .before .one-more .ensures, ne-eqb (c .before .before .args .self .count) 0 (omega arith))
 
 pub selects-spec : {M : Type 1} → statement M
-selects-spec = tie.close (tie.spec one-more-requires returns returns-2)
+selects-spec = tie.close (tie.spec (λ c κs. search needs) returns returns-2)

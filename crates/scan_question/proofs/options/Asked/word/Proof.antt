@@ -5,23 +5,12 @@ use Rattle.scan_question.specs.Options.{left-more}
 use Rattle.scan_question.proofs.options.Asked.word.Statement.{statement}
 use Rattle.scan_question.proofs.options.Asked.word.Tie as tie
 
-returns : tie.Need-returns
-returns c = search needs
-
-mul-words : tie.Need-mul-words
-mul-words c = search needs
-
-slice-write-words : tie.Need-slice-write-words
-slice-write-words c = search needs
-
-add-self : tie.Need-add-self
-add-self c = search needs
-
-same-length : tie.Need-same-length
-same-length c = search needs
-
 returns-2 : tie.Need-returns-2
 returns-2 c = left-more _ _ _ (c .before .pre .1) (omega arith) (c .before .pre .0)
 
 pub word-spec : {M : Type 1} → statement M
-word-spec = tie.close (tie.spec returns mul-words slice-write-words add-self same-length returns-2)
+word-spec =
+    tie.close
+    (tie.spec
+    (λ c. search needs) (λ c. search needs) (λ c. search needs) (λ c. search needs) (λ c. search needs)
+    returns-2)
