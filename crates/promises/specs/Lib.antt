@@ -1,5 +1,5 @@
 -- The chapter in reading order: what every answer promises, what every layout does, the layouts one by one, one run
--- asked for by itself, the examples.
+-- asked for by itself, the three conditions for each C function, the examples.
 pub mod Promise
 pub mod Equal
 pub mod Fronts
@@ -22,4 +22,7 @@ pub mod Dictionary
 pub mod RunThere
 pub mod OneRunFaults
 pub mod OneRun
+pub mod Conditions
+pub mod Keeping
+pub mod Exported
 pub mod Examples
