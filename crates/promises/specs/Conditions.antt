@@ -132,7 +132,7 @@ RunsPack entries width before after r =
     (limitFault width (length entries) then largeFault width entries
     then roomFault (length before) (length (stream width entries)))
     ((width ≤ 32 and length entries ≤ 16384) and Small width entries and length (stream width entries)
-        ≤ length before)
+    ≤ length before)
     (Writes (stream width entries) before after (r .number))
     before after r
 
