@@ -2,7 +2,7 @@
 -- one statement. Most calls are lent a place more than they need, which keeps what it held.
 use mathlib.Core.Path.{_≡_, refl}
 use mathlib.Core.List.{List, [], _∷_, _++_, map}
-use Prim.Native.Nat.{ℕ}
+use Prim.Native.Nat.{ℕ, _%_}
 use lib.IntN.{ℤ, pos, negsuc}
 use lib.ListN.{take, drop, replicate}
 use Rattle.rules.specs.Bits.{tabulate, someBelow, put, bit, word, bytes, joined, bitOf, bitAt, piece}
@@ -21,6 +21,8 @@ use Rattle.rules.specs.RunWriter as RunWriter
 use Rattle.rules.specs.Signed.{zigzag, zigzagOf, modulo, signed, gap}
 use Rattle.rules.specs.Delta as Delta
 use Rattle.rules.specs.DeltaWriter as DeltaWriter
+use Rattle.rules.specs.declared.Next.{Next}
+use Rattle.rules.specs.declared.Next.the-variants.{Repeats, Packs}
 use Rattle.rules.specs.Dictionary as Dictionary
 
 -- what the definition gives, and what the document says: of signed entries, and unsigned ones as such
@@ -49,6 +51,10 @@ holding number places = outcome (accepted number) places
 -- a refusal, which changes nothing
 abbrev pub refusing : ℕ → List ℕ → Outcome ℕ
 refusing code places = outcome (refusal code) places
+
+-- how many entries the next run of the writer takes
+abbrev pub taking : Next → Outcome ℕ
+taking next = outcome (accepted (RunWriter.taken next)) []
 
 abbrev pub entries3 : List ℕ
 entries3 = 0 ∷ 1 ∷ 2 ∷ 3 ∷ 4 ∷ 5 ∷ 6 ∷ 7 ∷ []
@@ -131,6 +137,10 @@ rows =
     ∷ Runs.scan (0x05 ∷ []) 0 8 0 (pos 0) (pos 0) (lent 2) is refusing 11 (lent 2)
     ∷ Runs.scan (0x06 ∷ []) 3 2 0 (pos 0) (pos 0) (lent 2) is refusing 11 (lent 2)
     ∷ Runs.scan (0x05 ∷ []) 3 8 0 (pos 0) (pos 0) (lent 2) is refusing 11 (lent 2)
+    -- eight equal entries are one repeated run, seven open a packed one; it closes at 63 groups
+    ∷ taking (RunWriter.nextRun (replicate 8 5 ++ (4 ∷ []))) is taking (Repeats 8)
+    ∷ taking (RunWriter.nextRun (replicate 7 5 ++ (4 ∷ []))) is taking (Packs 1)
+    ∷ taking (RunWriter.nextRun (tabulate 512 (λ i. i % 2))) is taking (Packs 63)
     -- delta of 7, 5, 3, 1, 2, 3, 4, 5: 80 01 04 08 0E 03 02 00 00 00 C0 3F and six 00; from 2 to 4: 74, 4
     ∷ DeltaWriter.pack 32 slope (lent 19) is holding 18 (slopePage ++ lent 1)
     ∷ Delta.unpack 32 slopePage 8 (replicate 9 (pos 0)) reads holding 8 (slope ++ (pos 0 ∷ []))
@@ -171,7 +181,8 @@ pub examples : map (λ row. row .given) rows ≡ map (λ row. row .says) rows
 unfolding Horizontal.scan Horizontal.unpack Horizontal.pack Horizontal.pageFault Horizontal.packed
     Vertical.scan Vertical.unpack Vertical.pack Vertical.pageFault Vertical.packed Vertical.lane Vertical.plane
     Runs.scan Runs.unpack Runs.read Runs.repeatedAt Runs.packedAt Runs.cutEntries numberAt
-    RunWriter.pack RunWriter.stream RunWriter.runBytes RunWriter.nextRun RunWriter.stretch RunWriter.equalTo shortest
+    RunWriter.pack RunWriter.stream RunWriter.runBytes RunWriter.nextRun RunWriter.groupsOf RunWriter.stretch
+    RunWriter.equalTo shortest
     Delta.scan Delta.unpack Delta.read Delta.headAt Delta.shaped Delta.blockAt Delta.laidAt Delta.needed Delta.bodyBytes
     Delta.miniDeltas Delta.entryOf reading zigzag zigzagOf modulo signed gap
     DeltaWriter.pack DeltaWriter.page DeltaWriter.block DeltaWriter.widthOf DeltaWriter.wideFault

@@ -25,4 +25,5 @@ pub mod OneRun
 pub mod Conditions
 pub mod Keeping
 pub mod Exported
+pub mod RunWriterRules
 pub mod Examples

@@ -3,10 +3,12 @@
 use mathlib.Core.Path.{_≡_, refl, ap}
 use mathlib.Core.Bool.{Bool, true, false, cond}
 use mathlib.Core.List.{List, [], _∷_, _++_}
+use mathlib.Core.Logic.{_⊎_, inl, inr, ⊎-map}
 use Prim.Native.Nat.{ℕ, zero, suc, _+_, _*_, _≤_, _<_}
 use native.Mathlib.Omega.{arith}
 use lib.Dec.{leb, eqb}
 use lib.ListN.{length, drop, getD, length-drop}
+use lib.Seq.{drop-drop}
 use borrow.Author.Tests.{leb-true, leb-false, le-leb, lt-leb, eqb-true}
 use Rattle.rules.specs.RunWriter.{equalTo, stretch, groupsOf, nextRun, taken, runBytes, streamBy, stream}
 use Rattle.rules.specs.declared.Next.{Next}
@@ -70,6 +72,27 @@ groups-within (suc more) (x ∷ s) = go (leb 8 (stretch (x ∷ s))) (groups-with
         → 8 * cond t 0 (suc (groupsOf more (drop 8 (x ∷ s)))) ≤ suc (length s) + 7
     go true h = omega arith
     go false h = omega (arith, length-drop 8 (x ∷ s))
+
+-- they end at a stretch of 8 or more, at the end, or where there may be no more
+pub groups-close : (more : ℕ) (s : List ℕ)
+    → let g = groupsOf more s in (8 ≤ stretch (drop (8 * g) s)) ⊎ (length s ≤ 8 * g) ⊎ (g ≡ more)
+unfolding groupsOf
+groups-close zero s = inr (inr refl)
+groups-close (suc more) [] = inr (inl (omega arith))
+groups-close (suc more) (x ∷ s) = go (leb 8 (stretch (x ∷ s))) refl (groups-close more (drop 8 (x ∷ s)))
+  where
+    h : ℕ
+    h = groupsOf more (drop 8 (x ∷ s))
+
+    go : (t : Bool) → leb 8 (stretch (x ∷ s)) ≡ t
+        → (8 ≤ stretch (drop (8 * h) (drop 8 (x ∷ s)))) ⊎ (length (drop 8 (x ∷ s)) ≤ 8 * h) ⊎ (h ≡ more)
+        → let g = cond t 0 (suc h) in
+        (8 ≤ stretch (drop (8 * g) (x ∷ s))) ⊎ (length (x ∷ s) ≤ 8 * g) ⊎ (g ≡ suc more)
+    go true e rest = inl (leb-true 8 (stretch (x ∷ s)) e)
+    go false e rest =
+        let places : 8 * suc h ≡ 8 + 8 * h = omega arith in
+        ⊎-map (λ long. rw (places, ← (drop-drop (8 * h) 8 (x ∷ s))) long)
+        (⊎-map (λ end. omega (arith, length-drop 8 (x ∷ s))) (λ all. omega arith)) rest
 
 pub groups-some : (more : ℕ) (s : List ℕ) → 0 < length s → stretch s < 8 → 0 < groupsOf (suc more) s
 unfolding groupsOf
