@@ -3,6 +3,7 @@ ghost use mathlib.Core.Path.{_≡_};
 ghost use Prim.Native.Nat.{_+_, _≤_};
 ghost use lib.ListN.{length, take, drop};
 ghost use Rattle.rules.specs.Delta.{widthFault, sum};
+use limits::Signed;
 
 // The first fault of the `all` width bytes from `at` on, of which `need` are those of needed miniblocks.
 pub fn width_fault(page: &[u8], at: usize, all: usize, need: usize) -> u32
@@ -16,7 +17,7 @@ pub fn width_fault(page: &[u8], at: usize, all: usize, need: usize) -> u32
         }
         let w = page[at + k];
         if k < need {
-            if 32 < w {
+            if Signed::MAX_WIDTH < w as u32 {
                 return 1;
             }
         } else {

@@ -9,9 +9,9 @@ use lib.ListN.{getD, take, drop}
 use Rattle.rules.specs.Answer.{faulty, _then_}
 use Rattle.rules.specs.Bits.{someBelow, field, entry}
 use Rattle.rules.specs.Bits.Order.{lowFirst}
-use Rattle.rules.specs.Runs.{Piece, cutEntries, runAt, read, streamFault, streamEntry}
+use Rattle.rules.specs.Runs.{runAt, read, streamFault, streamEntry}
 use Rattle.rules.specs.declared.Run.the-variants.{Repeated, Packed, Refused}
-use Rattle.rules.specs.Grammar.{Cut}
+use Rattle.rules.specs.Grammar.{Piece, cutEntries, Cut}
 use Rattle.words.specs.Entries.{field-window, place-within}
 use Rattle.answers.specs.Laws.{then-found, then-none}
 use Rattle.runs_read.specs.Exact.{exact, accepted}

@@ -15,9 +15,9 @@ use Rattle.rules.specs.Comparison.{holds}
 use Rattle.rules.specs.Answer.{_then_, countFault, limitFault, operatorFault, roomFault, largeFault}
 use Rattle.rules.specs.Horizontal as Horizontal
 use Rattle.rules.specs.Vertical as Vertical
-use Rattle.rules.specs.Runs.{Piece, read, streamFault}
+use Rattle.rules.specs.Runs.{read, streamFault}
 use Rattle.rules.specs.RunWriter.{stream}
-use Rattle.rules.specs.Grammar.{Cut}
+use Rattle.rules.specs.Grammar.{Piece, Cut}
 use Rattle.rules.specs.Delta as Delta
 use Rattle.rules.specs.DeltaWriter as DeltaWriter
 use Rattle.rules.specs.Dictionary as Dictionary

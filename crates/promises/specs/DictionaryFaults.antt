@@ -11,9 +11,9 @@ use lib.IntN.{ℤ}
 use lib.ListN.{length}
 use lib.Signed.{leZ, ltZ, _<ℤ_, ltZ-yes}
 use borrow.Author.Tests.{eqb-true, eq-eqb, not-false, ltb-false, le-ltb, leb-false, lt-leb}
-use Rattle.rules.specs.Runs.{Piece, read, streamFault, streamEntry}
+use Rattle.rules.specs.Runs.{read, streamFault, streamEntry}
 use Rattle.rules.specs.Runs.Stream.{bad}
-use Rattle.rules.specs.Grammar.{Cut}
+use Rattle.rules.specs.Grammar.{Piece, Cut}
 use Rattle.rules.specs.Dictionary.{value, count, unordered, dictionaryFault, indexes, indexAt, indexFault}
 use Rattle.rules.specs.Dictionary.{columnFault}
 use Rattle.words.specs.Tests as Tests

@@ -15,6 +15,7 @@ use Rattle.rules.specs.Answer.Outcome.{outcome}
 use Rattle.rules.specs.Horizontal as Horizontal
 use Rattle.rules.specs.Vertical as Vertical
 use Rattle.rules.specs.Varint.{numberAt, reading}
+use Rattle.rules.specs.Grammar.{cutEntries}
 use Rattle.rules.specs.Runs as Runs
 use Rattle.rules.specs.Shortest.{shortest}
 use Rattle.rules.specs.RunWriter as RunWriter
@@ -170,6 +171,9 @@ rows =
     ∷ Dictionary.scan dict4 (0x02 ∷ 0x06 ∷ 0x03 ∷ []) 3 0 (pos 310) (pos 0) (lent 2) is holding 3 (0x07 ∷ lent 1)
     ∷ Dictionary.scan dict3 (0x02 ∷ 0x06 ∷ 0x03 ∷ []) 3 0 (pos 310) (pos 0) (lent 2) is refusing 15 (lent 2)
     ∷ Dictionary.scan dict3 (0x02 ∷ 0x06 ∷ 0x03 ∷ 0x00 ∷ []) 3 0 (pos 310) (pos 0) (lent 2) is refusing 6 (lent 2)
+    -- an empty dictionary has no value for an index: 15, but a byte left over is still 6
+    ∷ Dictionary.scan [] (0x00 ∷ 0x06 ∷ []) 3 0 (pos 0) (pos 0) (lent 2) is refusing 15 (lent 2)
+    ∷ Dictionary.scan [] (0x00 ∷ 0x06 ∷ 0x00 ∷ []) 3 0 (pos 0) (pos 0) (lent 2) is refusing 6 (lent 2)
     -- the first value is below 0; values that do not ascend are 14
     ∷ Dictionary.scan dict4 (0x02 ∷ 0x06 ∷ 0x00 ∷ []) 3 2 (pos 0) (pos 0) (lent 2) is holding 3 (0x07 ∷ lent 1)
     ∷ Dictionary.scan (drop 4 dict3 ++ dict3) (0x02 ∷ 0x06 ∷ 0x00 ∷ []) 3 2 (pos 0) (pos 0) (lent 2)
@@ -180,7 +184,7 @@ rows =
 pub examples : map (λ row. row .given) rows ≡ map (λ row. row .says) rows
 unfolding Horizontal.scan Horizontal.unpack Horizontal.pack Horizontal.pageFault Horizontal.packed
     Vertical.scan Vertical.unpack Vertical.pack Vertical.pageFault Vertical.packed Vertical.lane Vertical.plane
-    Runs.scan Runs.unpack Runs.read Runs.repeatedAt Runs.packedAt Runs.cutEntries numberAt
+    Runs.scan Runs.unpack Runs.read Runs.repeatedAt Runs.packedAt cutEntries numberAt
     RunWriter.pack RunWriter.stream RunWriter.runBytes RunWriter.nextRun RunWriter.groupsOf RunWriter.stretch
     RunWriter.equalTo shortest
     Delta.scan Delta.unpack Delta.read Delta.headAt Delta.shaped Delta.blockAt Delta.laidAt Delta.needed Delta.bodyBytes

@@ -5,10 +5,10 @@ use mathlib.Core.Logic.{_↔_}
 use Prim.Native.Nat.{ℕ, _+_, _-_, _*_}
 use native.Mathlib.Omega.{arith}
 use lib.ListN.{length, take, drop}
-use Rattle.rules.specs.Runs.{Piece, Stream, entries, also, after, runAt, answerOf}
-use Rattle.rules.specs.Runs.Piece.{same, packed}
+use Rattle.rules.specs.Runs.{Stream, also, after, runAt, answerOf}
+use Rattle.rules.specs.Grammar.Piece.{same, packed}
 use Rattle.rules.specs.Runs.Stream.{good, bad}
-use Rattle.rules.specs.Grammar.{OneRun}
+use Rattle.rules.specs.Grammar.{Piece, entries, OneRun}
 use Rattle.rules.specs.declared.Run.{Run}
 use Rattle.rules.specs.declared.Run.the-variants.{Repeated, Packed, Refused}
 use Rattle.rules.specs.declared.RunAnswer.{RunAnswer}

@@ -13,10 +13,10 @@ use Rattle.rules.specs.Comparison.{holds}
 use Rattle.rules.specs.Answer.{_then_, operatorFault, roomFault, accepted, scanned}
 use Rattle.rules.specs.Answer.Outcome.{outcome}
 use Rattle.rules.specs.Runs as Runs
-use Rattle.rules.specs.Runs.{Piece, Stream, cutEntries, read, streamFault, streamEntry}
+use Rattle.rules.specs.Runs.{Stream, read, streamFault, streamEntry}
 use Rattle.rules.specs.RunWriter as RunWriter
 use Rattle.rules.specs.RunWriter.{stream}
-use Rattle.rules.specs.Grammar.{Cut}
+use Rattle.rules.specs.Grammar.{Piece, cutEntries, Cut}
 use Rattle.rules.specs.declared.Answer.{Answer}
 use Rattle.words.specs.Joined.{Small}
 use Rattle.runs_read.specs.Exact as Exact

@@ -3,10 +3,32 @@
 use mathlib.Core.Path.{_≡_}
 use mathlib.Core.List.{List, [], _∷_, _++_}
 use Prim.Native.Nat.{ℕ, _+_, _-_, _*_, _%_, _^_, _<_, _≤_}
-use lib.ListN.{length}
-use Rattle.rules.specs.Bits.{ceil, number}
-use Rattle.rules.specs.Runs.{Piece, entries}
-use Rattle.rules.specs.Runs.Piece.{same, packed}
+use lib.ListN.{length, replicate}
+use Rattle.rules.specs.Bits.{ceil, tabulate, number, entry}
+use Rattle.rules.specs.Bits.Order.{lowFirst}
+
+-- ---- the runs of a stream, and their entries
+
+-- a run as it lies in the stream: the bytes that it takes, and its entries
+pub data Piece : Type 0 where
+  same : (size count value : ℕ) → Piece
+  packed : (size groups : ℕ) (body : List ℕ) → Piece
+
+-- how many entries it has, and which
+abbrev pub entries : Piece → ℕ
+entries (same size count value) = count
+entries (packed size groups body) = 8 * groups
+
+abbrev pub pieceEntries : ℕ → Piece → List ℕ
+pieceEntries w (same size count value) = replicate count value
+pieceEntries w (packed size groups body) = tabulate (8 * groups) (entry lowFirst body w)
+
+-- the entries of runs laid end to end
+unfoldable pub cutEntries : ℕ → List Piece → List ℕ
+cutEntries w [] = []
+cutEntries w (p ∷ ps) = pieceEntries w p ++ cutEntries w ps
+
+-- ---- how bytes are cut into them
 
 -- the bytes spell a number: seven bits a byte, lowest first, a byte of 128 or more where more follow
 pub data Spells : List ℕ → ℕ → Type 0 where

@@ -1,15 +1,16 @@
 -- Run streams, as a reader goes through them: the first fault in reading order, or the runs.
 use mathlib.Core.Bool.{Bool, true, false, cond}
-use mathlib.Core.List.{List, [], _∷_, _++_}
+use mathlib.Core.List.{List, [], _∷_}
 use Prim.Native.Nat.{ℕ, zero, suc, _+_, _-_, _*_, _/_, _%_, _^_}
 use lib.IntN.{ℤ, pos}
 use lib.Dec.{ltb, leb, eqb}
-use lib.ListN.{length, take, drop, getD, replicate}
-use Rattle.rules.specs.Bits.{ceil, tabulate, number, entry}
-use Rattle.rules.specs.Bits.Order.{lowFirst}
+use lib.ListN.{length, take, drop, getD}
+use Rattle.rules.specs.Bits.{ceil, tabulate, number}
 use Rattle.rules.specs.Comparison.{holds}
 use Rattle.rules.specs.Answer.{_then_, limitFault, operatorFault, roomFault, Outcome, scanned, written}
 use Rattle.rules.specs.Varint.{numberAt}
+use Rattle.rules.specs.Grammar.{Piece, cutEntries}
+use Rattle.rules.specs.Grammar.Piece.{same, packed}
 use Rattle.rules.specs.declared.Number.{Number}
 use Rattle.rules.specs.declared.Number.the-variants.{Read, Ended, Beyond}
 use Rattle.rules.specs.declared.Run.{Run}
@@ -45,25 +46,6 @@ abbrev pub runAt : ℕ → ℕ → List ℕ → ℕ → Run
 runAt w left page at = headed w left page (numberAt 32 page at)
 
 -- ---- a stream
-
--- a run as it lies in the stream: the bytes that it takes, and its entries
-pub data Piece : Type 0 where
-  same : (size count value : ℕ) → Piece
-  packed : (size groups : ℕ) (body : List ℕ) → Piece
-
--- how many entries it has, and which
-abbrev pub entries : Piece → ℕ
-entries (same size count value) = count
-entries (packed size groups body) = 8 * groups
-
-abbrev pub pieceEntries : ℕ → Piece → List ℕ
-pieceEntries w (same size count value) = replicate count value
-pieceEntries w (packed size groups body) = tabulate (8 * groups) (entry lowFirst body w)
-
--- the entries of runs laid end to end
-unfoldable pub cutEntries : ℕ → List Piece → List ℕ
-cutEntries w [] = []
-cutEntries w (p ∷ ps) = pieceEntries w p ++ cutEntries w ps
 
 -- the runs of a stream, or its first fault
 pub data Stream : Type 0 where

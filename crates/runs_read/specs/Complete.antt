@@ -8,9 +8,9 @@ use lib.Seq.{drop-drop, drop-at, take-at}
 use borrow.Author.Tests.{lt-ltb, le-ltb, ne-eqb}
 use Rattle.rules.specs.Bits.{ceil, number}
 use Rattle.rules.specs.Varint.{numberAt}
-use Rattle.rules.specs.Runs.{Piece, Stream, entries, repeatedAt, packedAt, headed, runAt, also, after, readAt}
+use Rattle.rules.specs.Runs.{Stream, repeatedAt, packedAt, headed, runAt, also, after, readAt}
 use Rattle.rules.specs.Runs.Stream.{good}
-use Rattle.rules.specs.Grammar.{Header, OneRun, Cut}
+use Rattle.rules.specs.Grammar.{Piece, entries, Header, OneRun, Cut}
 use Rattle.rules.specs.Grammar.OneRun.{repeats, packs}
 use Rattle.rules.specs.Grammar.Cut.{done, next}
 use Rattle.rules.specs.declared.Number.the-variants.{Read}

@@ -10,9 +10,8 @@ use lib.Pow.{pow-pos}
 use borrow.Author.Tests.{ltb-true, ltb-false}
 use Rattle.rules.specs.Bits.{entry}
 use Rattle.rules.specs.Bits.Order.{lowFirst}
-use Rattle.rules.specs.Runs.{Piece, entries, pieceEntries, cutEntries}
-use Rattle.rules.specs.Runs.Piece.{same, packed}
-use Rattle.rules.specs.Grammar.{OneRun, Cut}
+use Rattle.rules.specs.Grammar.Piece.{same, packed}
+use Rattle.rules.specs.Grammar.{Piece, entries, pieceEntries, cutEntries, OneRun, Cut}
 use Rattle.rules.specs.Grammar.OneRun.{repeats, packs}
 use Rattle.rules.specs.Grammar.Cut.{done, next}
 use Rattle.words.specs.Joined.{Small, piece-lt}

@@ -7,9 +7,9 @@ use Prim.Native.Nat.{ℕ, zero, suc, _<_}
 use native.Mathlib.Omega.{arith}
 use lib.Dec.{ltb}
 use lib.ListN.{length}
-use Rattle.rules.specs.Runs.{Piece, Stream, also, atEnd, after, readAt, read, streamFault}
+use Rattle.rules.specs.Runs.{Stream, also, atEnd, after, readAt, read, streamFault}
 use Rattle.rules.specs.Runs.Stream.{good, bad}
-use Rattle.rules.specs.Grammar.{Cut}
+use Rattle.rules.specs.Grammar.{Piece, Cut}
 use Rattle.rules.specs.declared.Run.{Run}
 use Rattle.runs_read.specs.RunRead.{Shown, refuses, repeats, packs, shown}
 use Rattle.runs_read.specs.Complete.{complete}

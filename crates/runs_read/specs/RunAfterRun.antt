@@ -5,7 +5,8 @@ use Prim.Native.Nat.{ℕ, zero, suc, _<_}
 use native.Mathlib.Omega.{arith}
 use lib.Dec.{ltb}
 use lib.ListN.{length}
-use Rattle.rules.specs.Runs.{Piece, atEnd, after, readAt, runAt}
+use Rattle.rules.specs.Grammar.{Piece}
+use Rattle.rules.specs.Runs.{atEnd, after, readAt, runAt}
 use Rattle.rules.specs.Runs.Stream.{good, bad}
 
 pub turn : (w turns left : ℕ) (page : List ℕ) (at : ℕ) → 0 < left

@@ -11,10 +11,10 @@ use lib.Seq.{drop-drop}
 use borrow.Author.Tests.{ltb-false}
 use Rattle.rules.specs.Bits.{ceil}
 use Rattle.rules.specs.Varint.{numberAt}
-use Rattle.rules.specs.Runs.{Piece, Stream, entries, also, atEnd, after, readAt, runAt}
-use Rattle.rules.specs.Runs.Piece.{same, packed}
+use Rattle.rules.specs.Runs.{Stream, also, atEnd, after, readAt, runAt}
+use Rattle.rules.specs.Grammar.Piece.{same, packed}
 use Rattle.rules.specs.Runs.Stream.{good, bad}
-use Rattle.rules.specs.Grammar.{Header, OneRun, Cut}
+use Rattle.rules.specs.Grammar.{Piece, entries, Header, OneRun, Cut}
 use Rattle.rules.specs.Grammar.OneRun.{repeats as repeats-run, packs as packs-run}
 use Rattle.rules.specs.Grammar.Cut.{done, next}
 use Rattle.rules.specs.declared.Run.{Run}

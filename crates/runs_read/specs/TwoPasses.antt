@@ -5,9 +5,9 @@ use mathlib.Core.List.{List, [], _∷_}
 use Prim.{Unit, tt}
 use Prim.Native.Nat.{ℕ, zero, suc, _+_, _-_, _*_}
 use native.Mathlib.Omega.{arith}
-use Rattle.rules.specs.Runs.{Piece, Stream, entries, runAt, also, atEnd, after, readAt, read, streamFault}
+use Rattle.rules.specs.Runs.{Stream, runAt, also, atEnd, after, readAt, read, streamFault}
 use Rattle.rules.specs.Runs.Stream.{good, bad}
-use Rattle.rules.specs.Grammar.{Cut}
+use Rattle.rules.specs.Grammar.{Piece, entries, Cut}
 use Rattle.rules.specs.declared.Run.{Run}
 use Rattle.rules.specs.declared.Run.the-variants.{Repeated, Packed, Refused}
 use Rattle.runs_read.specs.Exact.{exact}

@@ -6,8 +6,9 @@ use Prim.Native.Nat.{ℕ, zero, suc, _-_, _*_, _<_, _≤_}
 use native.Mathlib.Omega.{arith}
 use lib.Dec.{ltb}
 use lib.ListN.{length, take, drop}
-use Rattle.rules.specs.Runs.{Piece, Stream, runAt, also, atEnd, after, readAt}
-use Rattle.rules.specs.Runs.Piece.{same, packed}
+use Rattle.rules.specs.Grammar.{Piece}
+use Rattle.rules.specs.Runs.{Stream, runAt, also, atEnd, after, readAt}
+use Rattle.rules.specs.Grammar.Piece.{same, packed}
 use Rattle.rules.specs.Runs.Stream.{good, bad}
 use Rattle.rules.specs.declared.Run.{Run}
 use Rattle.rules.specs.declared.Run.the-variants.{Repeated, Packed, Refused}

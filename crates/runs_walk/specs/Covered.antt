@@ -12,9 +12,8 @@ use lib.ListN.{getD, replicate, List·getD-append}
 use lib.Seq.{getD-append-add}
 use Rattle.rules.specs.Bits.{entry}
 use Rattle.rules.specs.Bits.Order.{lowFirst}
-use Rattle.rules.specs.Runs.{Piece, entries, pieceEntries, cutEntries}
-use Rattle.rules.specs.Runs.Piece.{same, packed}
-use Rattle.rules.specs.Grammar.{Cut}
+use Rattle.rules.specs.Grammar.Piece.{same, packed}
+use Rattle.rules.specs.Grammar.{Piece, entries, pieceEntries, cutEntries, Cut}
 use Rattle.rules.specs.Grammar.Cut.{done, next}
 use Rattle.words.specs.Tabulated.{getD-tabulate}
 use Rattle.runs_read.specs.Entries.{length-piece}

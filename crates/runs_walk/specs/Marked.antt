@@ -8,8 +8,7 @@ use lib.ListN.{getD, take, drop}
 use Rattle.rules.specs.Bits.{word, field, entry, put}
 use Rattle.rules.specs.Bits.Order.{lowFirst}
 use Rattle.rules.specs.Bitmap.{bitmap}
-use Rattle.rules.specs.Runs.{Piece, cutEntries}
-use Rattle.rules.specs.Grammar.{Cut}
+use Rattle.rules.specs.Grammar.{Piece, cutEntries, Cut}
 use Rattle.words.specs.Bits.{word-ext}
 use Rattle.words.specs.Appended.{appended}
 use Rattle.bitmaps.specs.Bitmaps.{bitmap-none, appended-bitmap}

@@ -6,8 +6,7 @@ use native.Mathlib.Omega.{arith}
 use lib.ListN.{length, getD, take, drop}
 use Rattle.rules.specs.Bits.{field, entry, put, tabulate}
 use Rattle.rules.specs.Bits.Order.{lowFirst}
-use Rattle.rules.specs.Runs.{Piece, cutEntries}
-use Rattle.rules.specs.Grammar.{Cut}
+use Rattle.rules.specs.Grammar.{Piece, cutEntries, Cut}
 use Rattle.words.specs.Entries.{field-window, place-within}
 use Rattle.words.specs.Tabulated.{tabulate-none, tabulate-ext, put-tabulate-add}
 use Rattle.runs_read.specs.TwoPasses.{putAll, pass, pass-cut}

@@ -9,9 +9,9 @@ use Rattle.rules.specs.Bits.{ceil, tabulate, number, bytes}
 use Rattle.rules.specs.Bits.Order.{lowFirst}
 use Rattle.rules.specs.Horizontal.{packed}
 use Rattle.rules.specs.Shortest.{shortest}
-use Rattle.rules.specs.Runs.{Piece, Stream, entries, pieceEntries, cutEntries, read, streamFault, streamEntry}
+use Rattle.rules.specs.Runs.{Stream, read, streamFault, streamEntry}
 use Rattle.rules.specs.Runs.Stream.{good}
-use Rattle.rules.specs.Grammar.{Header, OneRun, Cut}
+use Rattle.rules.specs.Grammar.{Piece, entries, pieceEntries, cutEntries, Header, OneRun, Cut}
 use Rattle.rules.specs.Grammar.OneRun.{repeats, packs}
 use Rattle.rules.specs.Grammar.Cut.{done, next}
 use Rattle.rules.specs.RunWriter.{stretch, groupsOf, nextRun, taken, filled, runBytes, stream}

@@ -37,6 +37,13 @@ returns c =
     ∙ width-missing 32 (a .all - l .k) (a .need - l .k) (a .page .now) (a .at + l .k) (omega arith)
     (omega arith))
 
+-- a byte of the page is a byte
+cast-if3 : tie.Need-cast-if3 Inv-loop μ-loop
+cast-if3 c =
+    let l = c .before .before .before .before .loop in
+    let a = c .before .before .before .before .before .args in
+    omega (arith, c .before .shared-slice-known .given (a .at + l .k))
+
 returns-2 : tie.Need-returns-2 Inv-loop μ-loop
 returns-2 c =
     let r = c .before .before .before .before .before in
@@ -97,5 +104,5 @@ pub width-fault-spec : {M : Type 1} → statement M
 width-fault-spec =
     tie.close
     (tie.spec
-    Inv-loop μ-loop loop-holds (λ c. search needs) returns (λ c. search needs) (λ c. search needs) returns-2
-    returns-3 (λ c. search needs) (λ c. search needs) loop-again returns-4)
+    Inv-loop μ-loop loop-holds (λ c. search needs) returns (λ c. search needs) (λ c. search needs) cast-if3
+    returns-2 returns-3 (λ c. search needs) (λ c. search needs) loop-again returns-4)
