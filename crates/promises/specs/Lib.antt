@@ -28,4 +28,5 @@ pub mod Keeping
 pub mod Exported
 pub mod Calls
 pub mod Codes
+pub mod Counts
 pub mod Examples
