@@ -26,6 +26,7 @@ pub mod OneRun
 pub mod Conditions
 pub mod Keeping
 pub mod Exported
+pub mod Handing
 pub mod Calls
 pub mod Codes
 pub mod Counts
