@@ -30,4 +30,5 @@ pub mod Handing
 pub mod Calls
 pub mod Codes
 pub mod Counts
+pub mod InTurn
 pub mod Examples
