@@ -50,6 +50,7 @@ pub struct Signed {
 
 impl Signed {
     pub const MAX_WIDTH: u32 = 32;
+
     pub const MAX_ENTRIES: usize = 16384;
 
     pub fn new(entries: usize) -> Self

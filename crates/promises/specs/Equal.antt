@@ -2,8 +2,11 @@
 -- shape.
 use mathlib.Core.Path.{_≡_}
 use mathlib.Core.List.{List}
+use Prim.Native.Nat.{ℕ}
 use Rattle.rules.specs.Answer.{Outcome}
 use Rattle.rules.specs.Answer.Outcome.{outcome}
+use Rattle.rules.specs.Runs.{Handed}
+use Rattle.rules.specs.Runs.Handed.{handed}
 use Rattle.rules.specs.declared.Answer.{Answer}
 use Rattle.rules.specs.declared.RunAnswer.{RunAnswer}
 
@@ -15,3 +18,8 @@ equal one other = (cc, cc)
 -- the same of one run asked for by itself, whose answer is all that it gives
 pub equal-run : {allowed r₁ r₂ : RunAnswer} → r₁ ≡ allowed → r₂ ≡ allowed → r₁ ≡ r₂
 equal-run one other = cc
+
+-- and of the form that hands back a part of the page: the parts are equal, and so are the numbers beside them
+pub equal-handed : {allowed : Handed} {part₁ part₂ numbers₁ numbers₂ : List ℕ}
+    → handed part₁ numbers₁ ≡ allowed → handed part₂ numbers₂ ≡ allowed → (part₁ ≡ part₂) × (numbers₁ ≡ numbers₂)
+equal-handed one other = (cc, cc)

@@ -152,7 +152,8 @@ rows =
     ∷ Delta.scan 32 slopePage 7 6 (pos 2) (pos 4) (lent 2) is refusing 13 (lent 2)
     -- block size 129 is 12, also with another count, and so is 32,768; a number of five bytes above 0F is 9
     ∷ Delta.scan 32 (0x81 ∷ 0x01 ∷ 0x04 ∷ 0x08 ∷ 0x0E ∷ []) 7 6 (pos 2) (pos 4) (lent 2) is refusing 12 (lent 2)
-    ∷ Delta.scan 32 (0x80 ∷ 0x80 ∷ 0x02 ∷ 0x04 ∷ 0x08 ∷ 0x0E ∷ []) 8 6 (pos 2) (pos 4) (lent 2) is refusing 12 (lent 2)
+    ∷ Delta.scan 32 (0x80 ∷ 0x80 ∷ 0x02 ∷ 0x04 ∷ 0x08 ∷ 0x0E ∷ []) 8 6 (pos 2) (pos 4) (lent 2) is refusing 12
+    (lent 2)
     ∷ Delta.scan 32 (0x80 ∷ 0x01 ∷ 0x04 ∷ 0x01 ∷ 0xFF ∷ 0xFF ∷ 0xFF ∷ 0xFF ∷ 0x10 ∷ []) 1 0 (pos 0) (pos 0) (lent 2)
     is refusing 9 (lent 2)
     -- a needed width of 33 is 1, an unneeded one of 1 is 16
@@ -167,7 +168,8 @@ rows =
     ∷ DeltaWriter.pack 32 ends (lent 15) is holding 14 (endsPage ++ lent 1)
     ∷ Delta.unpack 32 endsPage 2 (replicate 2 (pos 0)) reads holding 2 ends
     ∷ Delta.scan 32 endsPage 2 2 (pos 0) (pos 0) (lent 2) is holding 1 (0x02 ∷ lent 1)
-    -- dictionary -120, 0, 85, 310, page 02 06 03, n 3: three times 310; without the 310: 15, but 6 with a byte left over
+    -- dictionary -120, 0, 85, 310, page 02 06 03, n 3: three times 310; without the 310: 15, but 6 with a byte left
+    -- over
     ∷ Dictionary.scan dict4 (0x02 ∷ 0x06 ∷ 0x03 ∷ []) 3 0 (pos 310) (pos 0) (lent 2) is holding 3 (0x07 ∷ lent 1)
     ∷ Dictionary.scan dict3 (0x02 ∷ 0x06 ∷ 0x03 ∷ []) 3 0 (pos 310) (pos 0) (lent 2) is refusing 15 (lent 2)
     ∷ Dictionary.scan dict3 (0x02 ∷ 0x06 ∷ 0x03 ∷ 0x00 ∷ []) 3 0 (pos 310) (pos 0) (lent 2) is refusing 6 (lent 2)
@@ -187,7 +189,8 @@ unfolding Horizontal.scan Horizontal.unpack Horizontal.pack Horizontal.pageFault
     Runs.scan Runs.unpack Runs.read Runs.repeatedAt Runs.packedAt cutEntries numberAt
     RunWriter.pack RunWriter.stream RunWriter.runBytes RunWriter.nextRun RunWriter.groupsOf RunWriter.stretch
     RunWriter.equalTo shortest
-    Delta.scan Delta.unpack Delta.read Delta.headAt Delta.shaped Delta.blockAt Delta.laidAt Delta.needed Delta.bodyBytes
+    Delta.scan Delta.unpack Delta.read Delta.headAt Delta.shaped Delta.blockAt Delta.laidAt Delta.needed
+    Delta.bodyBytes
     Delta.miniDeltas Delta.entryOf reading zigzag zigzagOf modulo signed gap
     DeltaWriter.pack DeltaWriter.page DeltaWriter.block DeltaWriter.widthOf DeltaWriter.wideFault
     Dictionary.scan Dictionary.value Dictionary.unordered Dictionary.dictionaryFault Dictionary.indexes

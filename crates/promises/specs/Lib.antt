@@ -1,11 +1,12 @@
 -- The chapter in reading order: what every answer promises, what every layout does, the layouts one by one, one run
--- asked for by itself, the three conditions for each C function, the examples.
+-- asked for by itself, what holds of each C function, what the writers write, the examples.
 pub mod Promise
 pub mod Equal
 pub mod Fronts
 pub mod Scans
 pub mod Writes
 pub mod NoFault
+pub mod WhichFaults
 pub mod Layouts
 pub mod Writers
 pub mod Bare
@@ -24,6 +25,11 @@ pub mod OneRunFaults
 pub mod OneRun
 pub mod Conditions
 pub mod Keeping
+pub mod Calls
 pub mod Exported
+pub mod Handing
+pub mod Codes
+pub mod Counts
+pub mod InTurn
 pub mod RunWriterRules
 pub mod Examples

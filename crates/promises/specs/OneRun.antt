@@ -14,8 +14,9 @@ use Rattle.rules.specs.declared.Run.the-variants.{Repeated, Packed, Refused}
 use Rattle.rules.specs.declared.RunAnswer.{RunAnswer}
 use Rattle.runs_read.specs.One.{one-packed, one-read}
 use Rattle.promises.specs.NoFault.{_and_, limits-kept}
+use Rattle.promises.specs.WhichFaults.{runFault}
 use Rattle.promises.specs.RunThere.{RunThere, Tells, run-told}
-use Rattle.promises.specs.OneRunFaults.{runFault, oneFault, first-fault, one-good, other-one}
+use Rattle.promises.specs.OneRunFaults.{oneFault, first-fault, one-good, not-six}
 
 -- the part of the page that an answer names, and beside it the other numbers
 abbrev pub named : List ℕ → RunAnswer → Handed
@@ -49,8 +50,7 @@ module _ (w n covered : ℕ) (page : List ℕ) (at : ℕ) {r : RunAnswer} (contr
 
     -- never with 6
     pub never-six : r .code ≡ 6 → ⊥
-    unfolding oneAnswer
-    never-six six = other-one w n covered page at (sym (ap (λ (x : RunAnswer). x .code) contract) ∙ six)
+    never-six six = not-six w n covered page at (sym code-is ∙ six)
 
     -- a run is given exactly where one stands by the grammar, with n not yet covered
     pub one-accepted : r .code ≡ 0
@@ -60,7 +60,8 @@ module _ (w n covered : ℕ) (page : List ℕ) (at : ℕ) {r : RunAnswer} (contr
         (λ e. good .0 (sym code-is ∙ e), λ g. code-is ∙ good .1 g)
 
     -- and it is that run
-    pub one-told : r .code ≡ 0 → (s : RunThere w (n - covered) page at) → Tells page at r (s .piece) (length (s .bytes))
+    pub one-told : r .code ≡ 0 → (s : RunThere w (n - covered) page at)
+        → Tells page at r (s .piece) (length (s .bytes))
     unfolding oneAnswer
     one-told ok s =
         let g = one-accepted .0 ok in

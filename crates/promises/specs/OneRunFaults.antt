@@ -4,26 +4,18 @@ use mathlib.Core.Path.{_≡_, refl}
 use mathlib.Core.Bool.{Bool, true, false, cond}
 use mathlib.Core.List.{List}
 use mathlib.Core.Logic.{_↔_, Iff·trans}
-use Prim.Native.Nat.{ℕ, _+_, _-_, _*_, _/_, _%_, _^_, _≤_, _<_}
+use Prim.Native.Nat.{ℕ, _-_, _≤_, _<_}
 use native.Mathlib.Omega.{arith}
-use lib.Dec.{leb, ltb, eqb}
-use lib.ListN.{length, take, drop}
+use lib.Dec.{leb, ltb}
+use lib.ListN.{length}
 use borrow.Author.Tests.{leb-false, lt-leb}
-use Rattle.rules.specs.Bits.{ceil, number}
 use Rattle.rules.specs.Answer.{faulty, _then_, limitFault}
 use Rattle.rules.specs.Varint.{numberAt}
-use Rattle.rules.specs.Runs.{repeatedAt, packedAt, headed, runAt, oneAt, answerOf}
-use Rattle.rules.specs.declared.Number.{Number}
-use Rattle.rules.specs.declared.Number.the-variants.{Read, Ended, Beyond}
-use Rattle.rules.specs.declared.Run.{Run}
+use Rattle.rules.specs.Runs.{runAt, oneAt}
 use Rattle.rules.specs.declared.Run.the-variants.{Refused}
-use Rattle.words.specs.Tests.{either}
 use Rattle.promises.specs.NoFault.{_and_, neither, no-fault, not-below, limits-kept}
+use Rattle.promises.specs.WhichFaults.{runFault, a-fault, in-order, limits, run}
 use Rattle.promises.specs.RunThere.{RunThere, run-exact}
-
--- 0 for a run that was read
-abbrev pub runFault : Run → ℕ
-runFault run = answerOf run .code
 
 -- 1, 2, then 5 for a place past the page's end, then 11 if n or more are covered, then the first fault of the run
 abbrev pub oneFault : ℕ → ℕ → ℕ → List ℕ → ℕ → ℕ
@@ -60,31 +52,16 @@ module _ (w n covered : ℕ) (page : List ℕ) (at : ℕ) where
 
 -- ---- never 6
 
--- a run refused with something else, or read
-abbrev pub Other : Run → Type 0
-Other run = runFault run ≡ 6 → ⊥
+-- 1, 2, 5, 11, and those of a run
+pub one-code : (Named : ℕ → Type 0) → Named 0 → Named 1 → Named 2 → Named 5 → Named 8 → Named 9 → Named 10 → Named 11
+    → (w n covered : ℕ) (page : List ℕ) (at : ℕ) → Named (oneFault w n covered page at)
+one-code Named none one two five eight nine ten eleven w n covered page at =
+    in-order Named none (limits Named none one two w n)
+    (in-order Named none (a-fault Named none (ltb (length page) at) five)
+    (in-order Named none (a-fault Named none (leb n covered) eleven)
+    (run Named none five eight nine ten eleven w (n - covered) page (numberAt 32 page at))))
 
--- 5, 9, 10, 11, 8
-other-read : (w left : ℕ) (page : List ℕ) (x : Number) → Other (headed w left page x)
-unfolding repeatedAt packedAt
-other-read w left page Ended = λ e. omega arith
-other-read w left page Beyond = λ e. omega arith
-other-read w left page (Read h p) =
-    either Other (eqb (h / 2) 0) (λ _ e. omega arith)
-    (λ _. either Other (eqb (h % 2) 0)
-    (λ _. either Other (ltb left (h / 2)) (λ _ e. omega arith)
-    (λ _. either Other (ltb (length page - p) (ceil w 8)) (λ _ e. omega arith)
-    (λ _. either Other (ltb (number (take (ceil w 8) (drop p page))) (2 ^ w)) (λ _ e. omega arith)
-    (λ _ e. omega arith))))
-    (λ _. either Other (ltb (left + 7) (8 * (h / 2))) (λ _ e. omega arith)
-    (λ _. either Other (ltb (length page - p) (w * (h / 2))) (λ _ e. omega arith) (λ _ e. omega arith))))
-
--- 1, 2, 5, 11, and those
-pub other-one : (w n covered : ℕ) (page : List ℕ) (at : ℕ) → Other (oneAt w n covered page at)
-unfolding oneAt
-other-one w n covered page at =
-    either Other (ltb 32 w) (λ _ e. omega arith)
-    (λ _. either Other (ltb 16384 n) (λ _ e. omega arith)
-    (λ _. either Other (ltb (length page) at) (λ _ e. omega arith)
-    (λ _. either Other (leb n covered) (λ _ e. omega arith)
-    (λ _. other-read w (n - covered) page (numberAt 32 page at)))))
+pub not-six : (w n covered : ℕ) (page : List ℕ) (at : ℕ) → oneFault w n covered page at ≡ 6 → ⊥
+not-six =
+    one-code (λ code. code ≡ 6 → ⊥) (λ e. omega arith) (λ e. omega arith) (λ e. omega arith) (λ e. omega arith)
+    (λ e. omega arith) (λ e. omega arith) (λ e. omega arith) (λ e. omega arith)

@@ -1,13 +1,9 @@
 -- How the writer of run streams writes a list, run by run, in document 01's sentences; s is what is not yet written.
 use mathlib.Core.Path.{_≡_}
-use mathlib.Core.Bool.{Bool, true, false, cond}
-use mathlib.Core.List.{List, [], _∷_, _++_}
-use mathlib.Core.Logic.{_⊎_, inl, inr}
-use Prim.Native.Nat.{ℕ, zero, suc, _+_, _*_, _≤_, _<_}
-use native.Mathlib.Omega.{arith}
-use lib.Dec.{leb}
+use mathlib.Core.List.{List, _++_}
+use mathlib.Core.Logic.{_⊎_}
+use Prim.Native.Nat.{ℕ, _+_, _*_, _≤_, _<_}
 use lib.ListN.{length, drop}
-use borrow.Author.Tests.{leb-true}
 use Rattle.rules.specs.Grammar.{Spells}
 use Rattle.rules.specs.RunWriter.{stretch, groupsOf, nextRun, taken, runBytes, stream}
 use Rattle.rules.specs.Shortest.{shortest}

@@ -1,0 +1,142 @@
+-- The C functions by name: what holds of every call of one, whatever it was given, gave back and left, by its own
+-- contract; and that nothing is asked before one. `Learnt` is what a caller learns of a call by the contract,
+-- `Asked` what
+-- the contract asks; a is the arguments in their order, e what they are at exit, r the answer.
+use mathlib.Core.Path.{_≡_, refl}
+use mathlib.Core.List.{List}
+use Prim.Native.Nat.{ℕ}
+use contract.Lifetimes.{Lfts}
+use denote.Triple.Clauses.{AtExit}
+use borrow.Fn.Kinds.{PK, RK, In, Out, Dens, resT, endedOf}
+use Rattle.cahermisk.proofs.horizontal.cahermisk_horizontal_scan.Kinds as horizontal-scan·kinds
+use Rattle.cahermisk.proofs.horizontal.cahermisk_horizontal_scan.Reads as horizontal-scan·reads
+use Rattle.cahermisk.proofs.horizontal.cahermisk_horizontal_unpack.Kinds as horizontal-unpack·kinds
+use Rattle.cahermisk.proofs.horizontal.cahermisk_horizontal_unpack.Reads as horizontal-unpack·reads
+use Rattle.cahermisk.proofs.horizontal.cahermisk_horizontal_pack.Kinds as horizontal-pack·kinds
+use Rattle.cahermisk.proofs.horizontal.cahermisk_horizontal_pack.Reads as horizontal-pack·reads
+use Rattle.cahermisk.proofs.vertical.cahermisk_vertical_scan.Kinds as vertical-scan·kinds
+use Rattle.cahermisk.proofs.vertical.cahermisk_vertical_scan.Reads as vertical-scan·reads
+use Rattle.cahermisk.proofs.vertical.cahermisk_vertical_unpack.Kinds as vertical-unpack·kinds
+use Rattle.cahermisk.proofs.vertical.cahermisk_vertical_unpack.Reads as vertical-unpack·reads
+use Rattle.cahermisk.proofs.vertical.cahermisk_vertical_pack.Kinds as vertical-pack·kinds
+use Rattle.cahermisk.proofs.vertical.cahermisk_vertical_pack.Reads as vertical-pack·reads
+use Rattle.cahermisk.proofs.runs.cahermisk_runs_scan.Kinds as runs-scan·kinds
+use Rattle.cahermisk.proofs.runs.cahermisk_runs_scan.Reads as runs-scan·reads
+use Rattle.cahermisk.proofs.runs.cahermisk_runs_unpack.Kinds as runs-unpack·kinds
+use Rattle.cahermisk.proofs.runs.cahermisk_runs_unpack.Reads as runs-unpack·reads
+use Rattle.cahermisk.proofs.runs.cahermisk_runs_pack.Kinds as runs-pack·kinds
+use Rattle.cahermisk.proofs.runs.cahermisk_runs_pack.Reads as runs-pack·reads
+use Rattle.cahermisk.proofs.runs.cahermisk_runs_next.Kinds as runs-next·kinds
+use Rattle.cahermisk.proofs.runs.cahermisk_runs_next.Reads as runs-next·reads
+use Rattle.cahermisk.proofs.delta.cahermisk_delta_scan.Kinds as delta-scan·kinds
+use Rattle.cahermisk.proofs.delta.cahermisk_delta_scan.Reads as delta-scan·reads
+use Rattle.cahermisk.proofs.delta.cahermisk_delta_unpack.Kinds as delta-unpack·kinds
+use Rattle.cahermisk.proofs.delta.cahermisk_delta_unpack.Reads as delta-unpack·reads
+use Rattle.cahermisk.proofs.delta.cahermisk_delta_pack.Kinds as delta-pack·kinds
+use Rattle.cahermisk.proofs.delta.cahermisk_delta_pack.Reads as delta-pack·reads
+use Rattle.cahermisk.proofs.dictionary.cahermisk_dictionary_scan.Kinds as dictionary-scan·kinds
+use Rattle.cahermisk.proofs.dictionary.cahermisk_dictionary_scan.Reads as dictionary-scan·reads
+use Rattle.cahermisk.proofs.dictionary.cahermisk_dictionary_unpack.Kinds as dictionary-unpack·kinds
+use Rattle.cahermisk.proofs.dictionary.cahermisk_dictionary_unpack.Reads as dictionary-unpack·reads
+
+-- whatever a call was given, gave back and left, of which its caller learns the one, the other holds
+abbrev pub Every : (k : ℕ) (ps : List (PK k)) (res : RK k) → Out k ps res → Out k ps res → Type 0
+Every k ps res Learnt Holds =
+    (κs : Lfts k) (a : Dens κs ps) (r : resT res κs .Denot) (e : AtExit (endedOf k ps res) κs)
+    → Learnt κs a r e → Holds κs a r e
+
+-- nothing is asked of whatever a call is given
+abbrev pub AsksNothing : (k : ℕ) (ps : List (PK k)) → In k ps → Type 1
+AsksNothing k ps Asked = (κs : Lfts k) (a : Dens κs ps) → Asked κs a ≡ Unit {0}
+
+abbrev pub EveryHorizontalScan : Out 2 horizontal-scan·kinds.ps horizontal-scan·kinds.r → Type 0
+EveryHorizontalScan = Every 2 horizontal-scan·kinds.ps horizontal-scan·kinds.r horizontal-scan·reads.Learnt
+
+abbrev pub EveryHorizontalUnpack : Out 2 horizontal-unpack·kinds.ps horizontal-unpack·kinds.r → Type 0
+EveryHorizontalUnpack = Every 2 horizontal-unpack·kinds.ps horizontal-unpack·kinds.r horizontal-unpack·reads.Learnt
+
+abbrev pub EveryHorizontalPack : Out 2 horizontal-pack·kinds.ps horizontal-pack·kinds.r → Type 0
+EveryHorizontalPack = Every 2 horizontal-pack·kinds.ps horizontal-pack·kinds.r horizontal-pack·reads.Learnt
+
+abbrev pub EveryVerticalScan : Out 2 vertical-scan·kinds.ps vertical-scan·kinds.r → Type 0
+EveryVerticalScan = Every 2 vertical-scan·kinds.ps vertical-scan·kinds.r vertical-scan·reads.Learnt
+
+abbrev pub EveryVerticalUnpack : Out 2 vertical-unpack·kinds.ps vertical-unpack·kinds.r → Type 0
+EveryVerticalUnpack = Every 2 vertical-unpack·kinds.ps vertical-unpack·kinds.r vertical-unpack·reads.Learnt
+
+abbrev pub EveryVerticalPack : Out 2 vertical-pack·kinds.ps vertical-pack·kinds.r → Type 0
+EveryVerticalPack = Every 2 vertical-pack·kinds.ps vertical-pack·kinds.r vertical-pack·reads.Learnt
+
+abbrev pub EveryRunsScan : Out 2 runs-scan·kinds.ps runs-scan·kinds.r → Type 0
+EveryRunsScan = Every 2 runs-scan·kinds.ps runs-scan·kinds.r runs-scan·reads.Learnt
+
+abbrev pub EveryRunsUnpack : Out 2 runs-unpack·kinds.ps runs-unpack·kinds.r → Type 0
+EveryRunsUnpack = Every 2 runs-unpack·kinds.ps runs-unpack·kinds.r runs-unpack·reads.Learnt
+
+abbrev pub EveryRunsPack : Out 2 runs-pack·kinds.ps runs-pack·kinds.r → Type 0
+EveryRunsPack = Every 2 runs-pack·kinds.ps runs-pack·kinds.r runs-pack·reads.Learnt
+
+abbrev pub EveryRunsNext : Out 1 runs-next·kinds.ps runs-next·kinds.r → Type 0
+EveryRunsNext = Every 1 runs-next·kinds.ps runs-next·kinds.r runs-next·reads.Learnt
+
+abbrev pub EveryDeltaScan : Out 2 delta-scan·kinds.ps delta-scan·kinds.r → Type 0
+EveryDeltaScan = Every 2 delta-scan·kinds.ps delta-scan·kinds.r delta-scan·reads.Learnt
+
+abbrev pub EveryDeltaUnpack : Out 2 delta-unpack·kinds.ps delta-unpack·kinds.r → Type 0
+EveryDeltaUnpack = Every 2 delta-unpack·kinds.ps delta-unpack·kinds.r delta-unpack·reads.Learnt
+
+abbrev pub EveryDeltaPack : Out 2 delta-pack·kinds.ps delta-pack·kinds.r → Type 0
+EveryDeltaPack = Every 2 delta-pack·kinds.ps delta-pack·kinds.r delta-pack·reads.Learnt
+
+abbrev pub EveryDictionaryScan : Out 3 dictionary-scan·kinds.ps dictionary-scan·kinds.r → Type 0
+EveryDictionaryScan = Every 3 dictionary-scan·kinds.ps dictionary-scan·kinds.r dictionary-scan·reads.Learnt
+
+abbrev pub EveryDictionaryUnpack : Out 3 dictionary-unpack·kinds.ps dictionary-unpack·kinds.r → Type 0
+EveryDictionaryUnpack = Every 3 dictionary-unpack·kinds.ps dictionary-unpack·kinds.r dictionary-unpack·reads.Learnt
+
+-- ---- the caller need check nothing first
+
+pub horizontal-scan-asks-nothing : AsksNothing 2 horizontal-scan·kinds.ps horizontal-scan·reads.Asked
+horizontal-scan-asks-nothing κs a = refl
+
+pub horizontal-unpack-asks-nothing : AsksNothing 2 horizontal-unpack·kinds.ps horizontal-unpack·reads.Asked
+horizontal-unpack-asks-nothing κs a = refl
+
+pub horizontal-pack-asks-nothing : AsksNothing 2 horizontal-pack·kinds.ps horizontal-pack·reads.Asked
+horizontal-pack-asks-nothing κs a = refl
+
+pub vertical-scan-asks-nothing : AsksNothing 2 vertical-scan·kinds.ps vertical-scan·reads.Asked
+vertical-scan-asks-nothing κs a = refl
+
+pub vertical-unpack-asks-nothing : AsksNothing 2 vertical-unpack·kinds.ps vertical-unpack·reads.Asked
+vertical-unpack-asks-nothing κs a = refl
+
+pub vertical-pack-asks-nothing : AsksNothing 2 vertical-pack·kinds.ps vertical-pack·reads.Asked
+vertical-pack-asks-nothing κs a = refl
+
+pub runs-scan-asks-nothing : AsksNothing 2 runs-scan·kinds.ps runs-scan·reads.Asked
+runs-scan-asks-nothing κs a = refl
+
+pub runs-unpack-asks-nothing : AsksNothing 2 runs-unpack·kinds.ps runs-unpack·reads.Asked
+runs-unpack-asks-nothing κs a = refl
+
+pub runs-pack-asks-nothing : AsksNothing 2 runs-pack·kinds.ps runs-pack·reads.Asked
+runs-pack-asks-nothing κs a = refl
+
+pub runs-next-asks-nothing : AsksNothing 1 runs-next·kinds.ps runs-next·reads.Asked
+runs-next-asks-nothing κs a = refl
+
+pub delta-scan-asks-nothing : AsksNothing 2 delta-scan·kinds.ps delta-scan·reads.Asked
+delta-scan-asks-nothing κs a = refl
+
+pub delta-unpack-asks-nothing : AsksNothing 2 delta-unpack·kinds.ps delta-unpack·reads.Asked
+delta-unpack-asks-nothing κs a = refl
+
+pub delta-pack-asks-nothing : AsksNothing 2 delta-pack·kinds.ps delta-pack·reads.Asked
+delta-pack-asks-nothing κs a = refl
+
+pub dictionary-scan-asks-nothing : AsksNothing 3 dictionary-scan·kinds.ps dictionary-scan·reads.Asked
+dictionary-scan-asks-nothing κs a = refl
+
+pub dictionary-unpack-asks-nothing : AsksNothing 3 dictionary-unpack·kinds.ps dictionary-unpack·reads.Asked
+dictionary-unpack-asks-nothing κs a = refl
