@@ -1,6 +1,6 @@
 -- What a page that is accepted holds is enough: no entry that is asked for lies behind its end, so that the number
 -- which `getD` gives there is never an entry.
-use mathlib.Core.Path.{_≡_, refl, sym, ap, _∙_}
+use mathlib.Core.Path.{_≡_, refl, sym, ap}
 use mathlib.Core.List.{List}
 use Prim.Native.Nat.{ℕ, zero, suc, _+_, _-_, _/_, _≤_}
 use native.Mathlib.Omega.{arith}
@@ -10,7 +10,7 @@ use denote.Ref.{now}
 use Rattle.rules.specs.Signed.{zigzag}
 use Rattle.rules.specs.Runs.{Piece, cutEntries}
 use Rattle.rules.specs.Grammar.{Cut}
-use Rattle.rules.specs.Delta.{Deltas, headAt, needed, blockDeltas, after, blockAt, blocksAt, read, pageFault}
+use Rattle.rules.specs.Delta.{headAt, needed, blockDeltas, after, blockAt, blocksAt, read, pageFault}
 use Rattle.rules.specs.Delta.Deltas.{good}
 use Rattle.rules.specs.Delta.Page.{holding}
 use Rattle.rules.specs.declared.Head.{Head}
@@ -22,7 +22,7 @@ use Rattle.delta_read.specs.Shapes.{Shape, shape}
 use Rattle.delta_read.specs.Heads.{head-shaped}
 use Rattle.delta_read.specs.Needed.{covers}
 use Rattle.delta_read.specs.BlockByBlock.{good-rest, never}
-use Rattle.delta_read.specs.DeltasFault.{Holds, good-head, good-page}
+use Rattle.delta_read.specs.DeltasFault.{good-head, good-page}
 use Rattle.delta_decode.specs.MiniblockDeltas.{length-block}
 use Rattle.promises.specs.DictionaryFaults.{Indexes}
 use Rattle.promises.specs.Exported as Exported

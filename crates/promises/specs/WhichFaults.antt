@@ -27,7 +27,7 @@ use Rattle.rules.specs.declared.Number.the-variants.{Read, Ended, Beyond}
 use Rattle.rules.specs.declared.Run.{Run}
 use Rattle.rules.specs.declared.Run.the-variants.{Repeated, Packed, Refused}
 use Rattle.rules.specs.declared.Head.{Head}
-use Rattle.rules.specs.declared.Head.the-variants.{Opened, Unopened}
+use Rattle.rules.specs.declared.Head.the-variants.{Unopened}
 use Rattle.rules.specs.declared.Block.{Block}
 use Rattle.rules.specs.declared.Block.the-variants.{Laid, Unlaid}
 use Rattle.words.specs.Tests.{either}
