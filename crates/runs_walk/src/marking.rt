@@ -15,8 +15,18 @@ use runs_mark::same::mark_same;
 use runs_read::plain::run_at;
 use words::counts::min;
 
-// The first m entries of the packed run whose body begins at byte `start`, from bit p on; what follows them
-// on the page is lent with them.
+// A repeated run's m entries, all selected or none of them, from bit p on: the bitmap's part from the run's
+// first byte is lent on.
+fn mark_repeated(bitmap: &mut [u8], p: usize, m: usize, selected: bool)
+    requires { ⌜ (0 < m) × (m ≤ 16384) × (p + m ≤ 8 * length (now bitmap)) ⌝ }
+    ensures { λ _. ⌜ now (bitmap .exit) ≡ appended (now (bitmap .entry)) p (word m (λ _. selected)) m ⌝ }
+{
+    let from = p / 8;
+    mark_same(&mut bitmap[from..], p % 8, m, selected);
+}
+
+// The first m entries of the packed run whose body begins at byte `start`, from bit p on, likewise; what
+// follows them on the page is lent with them.
 fn mark_body(
     page: &[u8],
     start: usize,
@@ -34,7 +44,8 @@ fn mark_body(
         (word m (λ k. ranged range (field lowFirst (now (page .entry)) (8 * start + k * w) w))) m ⌝ }
 {
     let end = min(start + (m * w + 7) / 8 + 8, page.len());
-    mark_packed(&page[start..end], w, m, range, bitmap, p);
+    let from = p / 8;
+    mark_packed(&page[start..end], w, m, range, &mut bitmap[from..], p % 8);
 }
 
 // All runs, in turn; a fault ends the pass.
@@ -49,7 +60,7 @@ pub fn mark_runs(page: &[u8], w: usize, n: usize, range: Range, bitmap: &mut [u8
         let run = run_at(page, at, w, n - i);
         match run {
             Run::Repeated { count, value, next } => {
-                mark_same(bitmap, i, count, passes(range, value));
+                mark_repeated(bitmap, i, count, passes(range, value));
                 i += count;
                 at = next;
             }

@@ -1,16 +1,16 @@
 -- Bits put behind bits, also inside a byte.
 use mathlib.Core.Path.{_≡_, sym, ap, _∙_}
-use mathlib.Core.List.{List, _++_}
+use mathlib.Core.List.{List, _++_, append-assoc}
 use Prim.Native.Nat.{ℕ, zero, suc, _+_, _-_, _*_, _/_, _%_, _^_, _≤_, _<_}
 use native.Mathlib.Nat.{lt-of-lt-of-le, mod-eq-of-lt, mod-one, mul-assoc, one-le-pow, mul-add-div-right}
 use native.Mathlib.Nat.{mul-add-mod-self-right}
 use native.Mathlib.Omega.{arith}
-use lib.Seq.{take-at, drop-at}
+use lib.Seq.{take-at, drop-at, take-add, drop-drop}
 use lib.ListN.{length, take, drop, getD}
 use lib.Arith.{lt-one}
 use lib.Pow.{pow-mono, pow-add, shr-lt}
 use Rattle.rules.specs.Bits.{ceil, bytes, put}
-use Rattle.words.specs.Puts.{put-longer, split-put}
+use Rattle.words.specs.Puts.{put-longer, split-put, part-rest, back-rest}
 use Rattle.words.specs.Bytes.{length-bytes, bytes-add, bytes-mod, pow-256}
 
 -- the list with the m bits of x from bit p on, and 0 for what is left of the last byte
@@ -67,3 +67,20 @@ appended-bits l p m n x h =
       after,
     )
     (ap (λ (y : List ℕ). u ++ y) (put-longer l v w a more) ∙ sym (split-put l u w a size))
+
+-- bits put in the part from byte a on are bits put in the list, 8 * a bits on
+appended-rest : (l : List ℕ) (a p x m : ℕ) → take a l ++ appended (drop a l) p x m ≡ appended l (8 * a + p) x m
+unfolding appended
+appended-rest l a p x m =
+    let byte : (8 * a + p) / 8 ≡ a + p / 8 = omega arith in
+    let bit : (8 * a + p) % 8 ≡ p % 8 = omega arith in
+    rw (byte, bit, take-add, drop-drop) (sym (append-assoc (take a l) (take (p / 8) (drop a l)) _))
+
+-- a part that was lent from byte a on and came back with bits put
+pub part-appended : (l ys : List ℕ) (a p q x m : ℕ) → 8 * a + p ≡ q
+    → ys ≡ appended (take (length l - a) (drop a l)) p x m
+    → take a l ++ (ys ++ drop (length l - a) (drop a l)) ≡ appended l q x m
+part-appended l ys a p q x m place e =
+    back-rest l ys a
+    ∙ ap (λ (y : List ℕ). take a l ++ y) (e ∙ ap (λ (y : List ℕ). appended y p x m) (part-rest l a))
+    ∙ appended-rest l a p x m ∙ ap (λ (k : ℕ). appended l k x m) place

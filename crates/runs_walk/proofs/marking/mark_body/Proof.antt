@@ -1,9 +1,10 @@
--- `runs_walk::marking::mark_body` meets its contract: the part's entries are the page's from byte `start` on.
+-- `runs_walk::marking::mark_body` meets its contract: the part's entries are the page's from byte `start` on, and
+-- bits put in the part from byte p / 8 on are bits put in the bitmap.
 use mathlib.Core.Path.{ap, _∙_}
-use Prim.Native.Nat.{ℕ, _-_, _*_, _≤_}
+use Prim.Native.Nat.{ℕ, _-_, _*_, _/_, _%_, _≤_}
 use native.Mathlib.Nat.{mul-le-mul}
 use native.Mathlib.Omega.{arith}
-use Rattle.words.specs.Appended.{appended}
+use Rattle.words.specs.Appended.{appended, part-appended}
 use Rattle.compare.specs.Range.{ranged}
 use Rattle.runs_mark.specs.BodyParts.{part-word}
 use borrow.Author.Needs.{needs}
@@ -26,7 +27,8 @@ returns : tie.Need-returns
 returns c =
     let a = c .before .before .before .before .before .before .before .before .args in
     let end = c .before .before .before .before .before .min .result in
-    c .before .before .mark-packed .ensures
+    part-appended (a .bitmap .now) _ (a .p / 8) (a .p % 8) (a .p) _ (a .m) (omega arith)
+    (c .before .before .mark-packed .ensures)
     ∙ ap (λ (x : ℕ). appended (a .bitmap .now) (a .p) x (a .m))
     (part-word (a .page .now) (a .start) (end - a .start) (a .w) (a .m) (ranged (a .range)) (omega arith))
 
@@ -35,4 +37,5 @@ mark-body-spec =
     tie.close
     (tie.spec
     mul-min add-min (λ c. search needs) (λ c. search needs) (λ c κs. search needs) (λ c. search needs)
-    (λ c. search needs) (λ c. search needs) (λ c κs. search needs) (λ c. search needs) returns)
+    (λ c. search needs) (λ c. search needs) (λ c. search needs) (λ c. search needs) (λ c. search needs)
+    (λ c κs. search needs) (λ c. search needs) returns)

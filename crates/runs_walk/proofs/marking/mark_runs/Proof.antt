@@ -50,11 +50,11 @@ loop-holds c =
       begins (a .n) (marks (ranged (a .range))) (a .w) (a .page .now) _ (a .bitmap .now) (marked-pass _ _ _ _ _),
     )
 
-mark-same-requires : tie.Need-mark-same-requires Inv-loop μ-loop
-mark-same-requires c κs =
+mark-repeated-requires : tie.Need-mark-repeated-requires Inv-loop μ-loop
+mark-repeated-requires c κs =
     let b = c .before .before .before .before .before .before .before in
     let ran = ran-repeated _ _ _ _ (repeated-run (c .before .before)) in
-    (ran .0, omega arith, omega arith, omega (arith, b .loop .inv .1))
+    (ran .0, omega arith, omega (arith, b .loop .inv .1))
 
 add-i : tie.Need-add-i Inv-loop μ-loop
 add-i c = omega (arith, ran-repeated _ _ _ _ (repeated-run (c .before .before .before .before .before)))
@@ -71,7 +71,7 @@ loop-again c =
       search needs,
       on-repeated _ (marks (ranged (b .before .before .before .args .range))) _ _ _ (omega arith) (b .loop .inv .2)
           (repeated-run r)
-          (c .before .before .mark-same .ensures
+          (c .before .before .mark-repeated .ensures
           ∙ ap
           (λ (t : Bool). appended (b .loop .bitmap) (b .loop .i) (word (r .before .run .given .0 .0) (λ _. t))
           (r .before .run .given .0 .0)) (c .before .before .before .passes .ensures)),
@@ -141,6 +141,6 @@ mark-runs-spec =
     tie.close
     (tie.spec
     Inv-loop μ-loop loop-holds (λ c. search needs) (λ c κs. search needs) (λ c. search needs)
-    (λ c κs. search needs) mark-same-requires add-i loop-less loop-again (λ c. search needs) mul-min
+    (λ c κs. search needs) mark-repeated-requires add-i loop-less loop-again (λ c. search needs) mul-min
     (λ c. search needs) (λ c κs. search needs) mark-body-requires mul-i add-i-2 loop-less-2 loop-again-2
     (λ c. search needs) (λ c. search needs) returns (λ c. search needs) returns-2)
