@@ -1,4 +1,5 @@
 pub mod Parts
+pub mod Headers
 pub mod Bodies
 pub mod RunRead
 pub mod RunAfterRun

@@ -73,7 +73,7 @@ fn packed_fault(len: usize, w: usize, left: usize, groups: usize) -> u32
 }
 
 // The packed run whose groups begin the part; `at` is the part's place on its page.
-fn packed_at(part: &[u8], at: usize, w: usize, left: usize, groups: usize) -> Run
+pub fn packed_at(part: &[u8], at: usize, w: usize, left: usize, groups: usize) -> Run
     requires { ⌜ (w ≤ 32) × (left ≤ 16384) × (at + length (now part) < 2 ^ 64) ⌝ }
     ensures { λ r. ⌜ ((page : List ℕ) → drop at page ≡ now (part .entry)
         → r ≡ packedAt w left page groups at) ⌝ }

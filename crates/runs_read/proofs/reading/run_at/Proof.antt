@@ -1,38 +1,26 @@
 -- `runs_read::reading::run_at` meets its contract: the header ends on the page, and the part that is lent on is the
 -- page's rest from there.
-use mathlib.Core.Logic.{⊎-elim}
-use mathlib.Core.Path.{_≡_, refl, sym, ap, _∙_}
-use mathlib.Core.List.{[], _∷_}
+use mathlib.Core.Path.{_≡_, sym, ap, _∙_}
 use Prim.Native.Nat.{ℕ, _/_, _≤_}
 use native.Mathlib.Omega.{arith}
 use lib.ListN.{length}
-use types.Run.{OneOf}
-use denote.Enum.Declared.{tagOf}
 use borrow.Author.Needs.{needs}
 use borrow.Author.Tests.{eq-eqb, ne-eqb}
 use Rattle.rules.specs.Runs.{headed, runAt}
-use Rattle.rules.specs.Varint.{numberAt, numberFault}
-use Rattle.rules.specs.declared.Number.{Number}
-use Rattle.rules.specs.declared.Number.the-variants.{Read, Ended, Beyond}
+use Rattle.rules.specs.Varint.{numberAt}
+use Rattle.rules.specs.declared.Number.the-variants.{Read}
 use Rattle.rules.specs.declared.Run.{Run}
 use Rattle.rules.specs.declared.Run.the-variants.{Refused}
-use Rattle.rules.proofs.Number.{the-type}
 use Rattle.varints.specs.Places.{next-within}
 use Rattle.words.specs.Puts.{part-rest}
+use Rattle.runs_read.specs.Headers.{unread}
 use Rattle.runs_read.proofs.reading.run_at.Statement.{statement}
 use Rattle.runs_read.proofs.reading.run_at.Tie as tie
-
--- no header was read
-unread : (f : Number → Run) → Refused 5 ≡ f Ended → Refused 9 ≡ f Beyond → (n : Number)
-    → OneOf (1 ∷ 2 ∷ []) (tagOf the-type n) → Refused (numberFault n) ≡ f n
-unread f ended beyond (Read h next) tag = absurd (⊎-elim (λ e. omega arith) (λ e. omega arith) tag)
-unread f ended beyond Ended tag = ended
-unread f ended beyond Beyond tag = beyond
 
 returns : tie.Need-returns
 returns c =
     let n = c .before .before .number-at in
-    ap Refused (c .fault-of .ensures) ∙ unread (headed _ _ _) refl refl (n .result) (c .before .match .keys2)
+    ap Refused (c .fault-of .ensures) ∙ unread _ _ _ (n .result) (c .before .match .keys2)
     ∙ ap (headed _ _ _) (n .ensures)
 
 -- the header that was read, and the place behind it
