@@ -2,7 +2,7 @@
 -- second is
 -- given what the first left. A second call's arguments, answer and exit are marked a′, r′, e′.
 use mathlib.Core.Path.{_≡_, _∙_}
-use Prim.Native.Nat.{ℕ, _≤_}
+use Prim.Native.Nat.{_≤_}
 use native.Mathlib.Omega.{arith}
 use lib.ListN.{length, take}
 use denote.Ref.{now}
