@@ -13,7 +13,7 @@ help:
 	@echo 'make install the library, its header and cahermisk.pc below PREFIX (/usr/local), or DESTDIR/PREFIX'
 	@echo 'make bench   the library, then its speed beside Rust loops for the same job, drawn in target/speed.svg'
 	@echo 'make stress  the library, then random and damaged pages for CAHERMISK_STRESS_SECONDS (120), beside the second reader'
-	@echo 'make figures what the last `make test` saw, into docs/FIGURES.md and the end of docs/SHAMS.md'
+	@echo 'make figures what the last `make test` saw, into docs/FIGURES.md and the end of docs/SHAMS.md; and wrong definitions'
 	@echo 'make clean   remove what was built (target/)'
 
 # rt waits for all crates that it began together: of four at once, two processors lose less than of two.
@@ -45,11 +45,15 @@ bench: need-cargo lib
 stress: need-cargo need-cc lib
 	@$(CARGO) test --offline --locked --quiet --manifest-path rust/Cargo.toml --test library -- --ignored stress --nocapture
 
-# The two documents that tell what a gate saw.
+# The two documents that tell what a gate saw, and what becomes of wrong definitions.
+SEEN = Printed by `tools/shams-seen` after `make test`: what the prover refused of each, without what only waits for that.
+WRONG = Printed by `tools/wrong-definitions`: each is tried on the definitions alone, and the rows of the proved table that refuse it.
+
 figures:
 	tools/figures >target/figures.md && mv target/figures.md docs/FIGURES.md
-	sed -i '/^## What was seen/,$$d' docs/SHAMS.md
-	{ echo '## What was seen'; echo; echo 'Printed by `tools/shams-seen` after `make test`: what the prover refused of each, without what only waits for that.'; echo; tools/shams-seen | sed 's/^/    /'; } >>docs/SHAMS.md
+	sed -i '/^## Wrong definitions/,$$d' docs/SHAMS.md
+	{ echo '## Wrong definitions'; echo; echo '$(WRONG)'; echo; tools/wrong-definitions | sed 's/^/    /'; echo; \
+	  echo '## What was seen'; echo; echo '$(SEEN)'; echo; tools/shams-seen | sed 's/^/    /'; } >>docs/SHAMS.md
 
 clean:
 	rm -rf target

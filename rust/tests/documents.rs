@@ -66,10 +66,11 @@ fn an_item_ends_where_it_is_closed() {
 #[test]
 fn each_form_stands_where_it_is_said_to() {
     let rows = rows("docs/FORMS.md");
-    assert!(rows.len() > 30, "only {} forms were found", rows.len());
-    for row in rows {
+    let forms: Vec<_> = rows.iter().filter(|row| row.len() != 2).collect();
+    assert!(forms.len() > 30, "only {} forms were found", forms.len());
+    for row in forms {
         let [file, item, holds] = &row[..] else {
-            panic!("a row of docs/FORMS.md has not three cells: {row:?}");
+            panic!("a row of docs/FORMS.md has neither two cells nor three: {row:?}");
         };
         let text = text_of(file);
         let item_text = item_of(&text, item).unwrap_or_else(|| panic!("{file} has no `{item}`"));
@@ -77,6 +78,51 @@ fn each_form_stands_where_it_is_said_to() {
             item_text.contains(holds.as_str()),
             "{file}, `{item}` does not hold `{holds}`"
         );
+    }
+}
+
+/// The source files of the crates, by their paths from the top, in order.
+fn sources() -> Vec<String> {
+    let folders = fs::read_dir(top().join("crates")).expect("the crates");
+    let mut paths = Vec::new();
+    for folder in folders {
+        let source = folder.expect("a crate").path().join("src");
+        for file in fs::read_dir(&source).expect("its source") {
+            let path = file.expect("a file").path();
+            let path = path.strip_prefix(top()).expect("a path below the top");
+            paths.push(path.to_str().expect("a plain name").to_owned());
+        }
+    }
+    paths.sort();
+    paths
+}
+
+/// Whether a line calls something, and is neither its definition nor a comment.
+fn calls(line: &str, call: &str) -> bool {
+    let code = line.split("//").next().unwrap_or_default();
+    code.match_indices(call).any(|(at, _)| {
+        let before = &code[..at];
+        !before.ends_with(|c: char| c.is_alphanumeric() || c == '_') && !before.ends_with("fn ")
+    })
+}
+
+#[test]
+fn a_call_is_told_from_what_looks_like_one() {
+    assert!(calls("    let a = at(1);", "at("));
+    assert!(calls("    u64::at(1)", "at("));
+    assert!(!calls("pub fn at(n: u8) {", "at("));
+    assert!(!calls("    flat(1); // at(1)", "at("));
+}
+
+#[test]
+fn no_other_path_leads_past_a_form() {
+    let rows = rows("docs/FORMS.md");
+    let paths: Vec<_> = rows.iter().filter(|row| row.len() == 2).collect();
+    assert!(paths.len() > 5, "only {} calls were found", paths.len());
+    for row in paths {
+        let has = |path: &String| text_of(path).lines().any(|line| calls(line, &row[0]));
+        let files: Vec<String> = sources().into_iter().filter(has).collect();
+        assert_eq!(files.join(", "), row[1], "the files that call `{}`", row[0]);
     }
 }
 

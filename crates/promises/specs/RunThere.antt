@@ -83,8 +83,7 @@ module _ (w left : ℕ) (page : List ℕ) (at : ℕ) where
             length-is = refl;
             value-is = refl;
             next-is = ends;
-            body-is = rw
-                size;
+            body-is = rw size;
           })
 
   -- what is read without a fault is a run of the grammar
