@@ -89,7 +89,7 @@ some-code : (w left : ℕ) (page : List ℕ) (at : ℕ) {code : ℕ} → runAt w
 some-code w left page at e = go (subst (Shown w left page at) e (shown w left page at))
   where
     go : {code : ℕ} → Shown w left page at (Refused code) → 0 < code
-    go (refuses code some) = some
+    go (refuses code some) = some .0
 
 module _ (w n : ℕ) (page : List ℕ) where
   abbrev pub judging : ℕ → ℕ → Type 0

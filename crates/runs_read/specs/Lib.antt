@@ -9,4 +9,5 @@ pub mod Exact
 pub mod Walks
 pub mod TwoPasses
 pub mod One
+pub mod Answering
 pub mod Entries

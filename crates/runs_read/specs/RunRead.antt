@@ -18,7 +18,7 @@ use Rattle.words.specs.Tests.{either}
 
 -- a header h was read that ends at p, and what follows it passed every test
 pub data Shown (w left : ℕ) (page : List ℕ) (at : ℕ) : Run → Type 0 where
-  refuses : (code : ℕ) → 0 < code → Shown w left page at (Refused code)
+  refuses : (code : ℕ) → (0 < code) × (code ≤ 11) → Shown w left page at (Refused code)
   repeats : (h p : ℕ) → numberAt 32 page at ≡ Read h p → h ≡ 2 * (h / 2) → 0 < h / 2 → h / 2 ≤ left
       → ceil w 8 ≤ length page - p → number (take (ceil w 8) (drop p page)) < 2 ^ w
       → Shown w left page at (Repeated (h / 2) (number (take (ceil w 8) (drop p page))) (p + ceil w 8))

@@ -88,7 +88,7 @@ StandsAs w left page at (Packed groups start to) =
 
 module _ (w left : ℕ) (page : List ℕ) (at : ℕ) where
   stands : {r : Run} → Shown w left page at r → StandsAs w left page at r
-  stands (refuses code fault) = fault
+  stands (refuses code fault) = fault .0
   stands (repeats h p q even nonempty fits there small) =
       let k : ℕ = ceil w 8 in
       let v : List ℕ = take k (drop p page) in

@@ -2,7 +2,7 @@
 ghost use mathlib.Core.Path.{_≡_};
 ghost use Rattle.rules.specs.Runs.{oneRun};
 ghost use Rattle.rules.specs.Runs.Handed.{handed};
-use crate::one::one_at;
+use crate::reader::run_from;
 use rules::Run;
 
 // Beside the part stand the code, the kind (1 for a packed run), the length in entries, the repeated value
@@ -17,7 +17,7 @@ pub fn one_run<'a, 'b>(
 ) -> &'a [u8]
     ensures { λ r. ⌜ handed (now r) (now (info .exit)) ≡ oneRun w n covered (now (page .entry)) at ⌝ }
 {
-    let run = one_at(page, at, w, n, covered);
+    let run = run_from(page, at, w, n, covered);
     match run {
         Run::Refused(code) => {
             *info = [code as usize, 0, 0, 0, 0];

@@ -13,13 +13,13 @@ returns : tie.Need-returns
 unfolding oneRun
 returns c =
     ap (handedBack _)
-    (sym (c .before .before .before .run .given .1) ∙ c .before .before .before .before .before .one-at .ensures)
+    (sym (c .before .before .before .run .given .1) ∙ c .before .before .before .before .before .run-from .ensures)
 
 returns-2 : tie.Need-returns-2
 unfolding oneRun
 returns-2 c =
     ap (handedBack _)
-    (sym (c .before .before .before .run2 .given .1) ∙ c .before .before .before .before .before .one-at .ensures)
+    (sym (c .before .before .before .run2 .given .1) ∙ c .before .before .before .before .before .run-from .ensures)
 
 -- a packed run that is handed back lies on the page
 lies : (c : tie.After-known-told3)
@@ -30,7 +30,7 @@ lies c =
     let a = c .before .before .before .before .before .args in
     let p =
     one-packed (a .w) (a .n) (a .covered) (a .page .now) (a .at)
-    (sym (c .before .before .before .one-at .ensures) ∙ c .before .run3 .given .1) in
+    (sym (c .before .before .before .run-from .ensures) ∙ c .before .run3 .given .1) in
     (omega arith, p .4, p .1)
 
 mul-result : tie.Need-mul-result
@@ -49,7 +49,7 @@ returns-3 : tie.Need-returns-3
 unfolding oneRun
 returns-3 c =
     ap (handedBack _)
-    (sym (c .before .before .before .run3 .given .1) ∙ c .before .before .before .before .before .one-at .ensures)
+    (sym (c .before .before .before .run3 .given .1) ∙ c .before .before .before .before .before .run-from .ensures)
 
 pub one-run-spec : {M : Type 1} → statement M
 one-run-spec =
