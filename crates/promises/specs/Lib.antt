@@ -33,4 +33,5 @@ pub mod Codes
 pub mod Counts
 pub mod InTurn
 pub mod RunWriterRules
+pub mod DeltaWriterRules
 pub mod Examples
