@@ -1,7 +1,6 @@
 -- The C functions by name: what holds of every call of one, whatever it was given, gave back and left, by its own
 -- contract; and that nothing is asked before one. `Learnt` is what a caller learns of a call by the contract,
--- `Asked` what
--- the contract asks; a is the arguments in their order, e what they are at exit, r the answer.
+-- `Asked` what the contract asks; a is the arguments in their order, e what they are at exit, r the answer.
 use mathlib.Core.Path.{_≡_, refl}
 use mathlib.Core.List.{List}
 use Prim.Native.Nat.{ℕ}

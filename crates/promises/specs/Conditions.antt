@@ -1,8 +1,6 @@
 -- The three conditions, function by function: what is promised of each C function, for all that it may be given.
--- `before`
--- and `after` are what the lent places hold at entry and at exit, and r is the answer. Exported says that the
--- functions
--- keep to it.
+-- `before` and `after` are what the lent places hold at entry and at exit, and r is the answer. Exported says that
+-- the functions keep to it.
 use mathlib.Core.Path.{_≡_}
 use mathlib.Core.List.{List}
 use mathlib.Core.Logic.{_↔_}

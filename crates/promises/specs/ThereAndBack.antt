@@ -1,6 +1,5 @@
 -- What is packed is read back, and what is unpacked of a bare page packs to it again: of two calls, of which the
--- second is
--- given what the first left. A second call's arguments, answer and exit are marked a′, r′, e′.
+-- second is given what the first left. A second call's arguments, answer and exit are marked a′, r′, e′.
 use mathlib.Core.Path.{_≡_, _∙_}
 use Prim.Native.Nat.{_≤_}
 use native.Mathlib.Omega.{arith}
