@@ -8,9 +8,9 @@ use native.Mathlib.Nat.{le-trans}
 use native.Mathlib.Omega.{arith}
 use lib.IntN.{ℤ, pos}
 use lib.ListN.{length, take, getD}
-use Rattle.rules.specs.Bits.{ceil, put}
+use Rattle.rules.specs.Bits.{ceil}
 use Rattle.rules.specs.Comparison.{holds}
-use Rattle.rules.specs.Answer.{_then_, operatorFault, roomFault, accepted, scanned}
+use Rattle.rules.specs.Answer.{_then_, operatorFault, roomFault, scanned}
 use Rattle.rules.specs.Answer.Outcome.{outcome}
 use Rattle.rules.specs.Delta as Delta
 use Rattle.rules.specs.DeltaWriter as DeltaWriter
@@ -18,8 +18,8 @@ use Rattle.rules.specs.declared.Answer.{Answer}
 use Rattle.delta_write.specs.Deltas.{AllWithin, no-wide-fault}
 use Rattle.delta_write.specs.Sizes.{page-enough}
 use Rattle.delta_write.specs.ReadBack.{fault-back, entries-back}
-use Rattle.promises.specs.Layouts.{Layout, scans, unpacks}
-use Rattle.promises.specs.Writers.{Writer, packs, pack-accepted, packed-unpacks, packed-scans}
+use Rattle.promises.specs.Layouts.{Layout}
+use Rattle.promises.specs.Writers.{Writer, pack-accepted, packed-scans}
 use Rattle.promises.specs.Signed.{signed}
 
 -- a page is good where a reader finds no fault: a grammar of delta pages, apart from the reader, is a later request
@@ -44,34 +44,12 @@ writer W some =
       packed-entries = λ k xs few fit held. entries-back W some xs few held;
     }
 
-pub scan-is : (W : ℕ) (page : List ℕ) (n op : ℕ) (a b : ℤ) (before : List ℕ)
-    → Delta.scan W page n op a b before ≡ scans (delta W) page tt n op a b before
-unfolding Delta.scan
-scan-is W page n op a b before = refl
-
-pub unpack-is : (W : ℕ) (page : List ℕ) (n : ℕ) (before : List ℤ)
-    → Delta.unpack W page n before ≡ unpacks (delta W) page tt n before
-unfolding Delta.unpack
-unpack-is W page n before = refl
-
-pub pack-is : (W : ℕ) (some : 0 < W) (entries : List ℤ) (before : List ℕ)
-    → DeltaWriter.pack W entries before ≡ packs (delta W) (writer W some) entries tt before
-unfolding DeltaWriter.pack
-pack-is W some entries before = refl
-
--- ---- what the writer wrote is read back
+-- ---- what the writer wrote is scanned
 
 module _ (W : ℕ) (some : 0 < W) (entries : List ℤ) (before : List ℕ) {page : List ℕ} {r : Answer}
     (contract : outcome r page ≡ DeltaWriter.pack W entries before) (ok : r .code ≡ 0) (held : AllWithin W entries)
   where
-    -- the bytes written unpack to the entries, in any places that have room
-    pub written-reads-back : (places : List ℤ) → length entries ≤ length places
-        → Delta.unpack W (take (r .number) page) (length entries) places
-        ≡ outcome (accepted (length entries)) (put places 0 entries)
-    unfolding Delta.unpack DeltaWriter.pack
-    written-reads-back = packed-unpacks (delta W) (writer W some) entries tt before contract ok held
-
-    -- and a scan of them has the bitmap of the entries
+    -- a scan of the bytes written has the bitmap of the entries
     pub written-scans : (op : ℕ) (a b : ℤ) (bitmap : List ℕ)
         → Delta.scan W (take (r .number) page) (length entries) op a b bitmap
         ≡ scanned (operatorFault op then roomFault (length bitmap) (ceil (length entries) 8)) (length entries)

@@ -1,7 +1,7 @@
 -- Dictionary columns are a layout of signed entries, read with their dictionary, and their contracts are its. A
 -- column is accepted exactly if its dictionary ascends, its index page can be cut by the published grammar and its
 -- indexes are below the count; what is given is that of the values at the indexes so cut.
-use mathlib.Core.Path.{_≡_, refl, subst}
+use mathlib.Core.Path.{_≡_, subst}
 use mathlib.Core.List.{List}
 use mathlib.Core.Logic.{_↔_}
 use Prim.Native.Nat.{ℕ, _≤_}
@@ -15,7 +15,7 @@ use Rattle.rules.specs.Dictionary.{value, indexAt}
 use Rattle.rules.specs.declared.Answer.{Answer}
 use Rattle.promises.specs.NoFault.{_and_}
 use Rattle.promises.specs.Layouts as Layouts
-use Rattle.promises.specs.Layouts.{Layout, scans, unpacks}
+use Rattle.promises.specs.Layouts.{Layout}
 use Rattle.promises.specs.Signed.{signed}
 use Rattle.promises.specs.Scans.{Selects}
 use Rattle.promises.specs.Writes.{Fills}
@@ -25,16 +25,6 @@ abbrev pub dictionary : Layout (List ℕ) ℤ
 dictionary =
     signed (λ page dict n. Dictionary.columnFault dict n page) Exact column-exact
     (λ page dict n i. value dict (indexAt n page i))
-
-pub scan-is : (dict page : List ℕ) (n op : ℕ) (a b : ℤ) (before : List ℕ)
-    → Dictionary.scan dict page n op a b before ≡ scans dictionary page dict n op a b before
-unfolding Dictionary.scan
-scan-is dict page n op a b before = refl
-
-pub unpack-is : (dict page : List ℕ) (n : ℕ) (before : List ℤ)
-    → Dictionary.unpack dict page n before ≡ unpacks dictionary page dict n before
-unfolding Dictionary.unpack
-unpack-is dict page n before = refl
 
 -- ---- which columns are accepted, and what is then given
 

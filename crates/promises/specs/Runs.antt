@@ -8,7 +8,7 @@ use Prim.Native.Nat.{ℕ, _+_, _*_, _/_, _≤_}
 use native.Mathlib.Nat.{le-trans}
 use lib.IntN.{ℤ, pos}
 use lib.ListN.{length, take, getD}
-use Rattle.rules.specs.Bits.{ceil, put}
+use Rattle.rules.specs.Bits.{ceil}
 use Rattle.rules.specs.Comparison.{holds}
 use Rattle.rules.specs.Answer.{_then_, operatorFault, roomFault, accepted, scanned}
 use Rattle.rules.specs.Answer.Outcome.{outcome}
@@ -24,8 +24,8 @@ use Rattle.runs_write.specs.Sizes.{stream-enough}
 use Rattle.runs_write.specs.ReadBack.{stream-back, entries-back}
 use Rattle.promises.specs.NoFault.{_and_}
 use Rattle.promises.specs.Layouts as Layouts
-use Rattle.promises.specs.Layouts.{Layout, scans, unpacks}
-use Rattle.promises.specs.Writers.{Writer, packs, pack-accepted, packed-unpacks, packed-scans}
+use Rattle.promises.specs.Layouts.{Layout}
+use Rattle.promises.specs.Writers.{Writer, pack-accepted, packed-scans}
 use Rattle.promises.specs.Unsigned.{unsigned, unsigned-writer}
 use Rattle.promises.specs.Scans.{Selects}
 use Rattle.promises.specs.Writes.{Fills}
@@ -49,21 +49,6 @@ writer =
     stream (λ w xs. length (stream w xs)) (λ w xs. refl)
     (λ w xs few small. let back = stream-back w xs few small in (back .runs, back .cut))
     entries-back
-
-pub scan-is : (page : List ℕ) (w n op : ℕ) (a b : ℤ) (before : List ℕ)
-    → Runs.scan page w n op a b before ≡ scans runs page w n op a b before
-unfolding Runs.scan
-scan-is page w n op a b before = refl
-
-pub unpack-is : (page : List ℕ) (w n : ℕ) (before : List ℕ)
-    → Runs.unpack page w n before ≡ unpacks runs page w n before
-unfolding Runs.unpack
-unpack-is page w n before = refl
-
-pub pack-is : (entries : List ℕ) (w : ℕ) (before : List ℕ)
-    → RunWriter.pack entries w before ≡ packs runs writer entries w before
-unfolding RunWriter.pack
-pack-is entries w before = refl
 
 -- ---- the third condition
 
@@ -101,18 +86,11 @@ module _ (page : List ℕ) (w n : ℕ) (before : List ℕ) {after : List ℕ} {r
       subst (λ (s : Stream). Fills n (streamEntry w s) before after (r .number)) (Exact.exact w n page ps .1 cut)
       (Layouts.unpack runs page w n before contract .accepts ok)
 
--- ---- what the writer wrote is read back
+-- ---- what the writer wrote is scanned
 
 module _ (entries : List ℕ) (w : ℕ) (before : List ℕ) {page : List ℕ} {r : Answer}
     (contract : outcome r page ≡ RunWriter.pack entries w before) (ok : r .code ≡ 0) where
-  -- the bytes written unpack to the entries, in any places that have room
-  pub written-reads-back : (places : List ℕ) → length entries ≤ length places
-      → Runs.unpack (take (r .number) page) w (length entries) places
-      ≡ outcome (accepted (length entries)) (put places 0 entries)
-  unfolding Runs.unpack RunWriter.pack
-  written-reads-back = packed-unpacks runs writer entries w before contract ok tt
-
-  -- and a scan of them has the bitmap of the entries
+  -- a scan of the bytes written has the bitmap of the entries
   pub written-scans : (op : ℕ) (a b : ℤ) (bitmap : List ℕ)
       → Runs.scan (take (r .number) page) w (length entries) op a b bitmap
       ≡ scanned (operatorFault op then roomFault (length bitmap) (ceil (length entries) 8)) (length entries)

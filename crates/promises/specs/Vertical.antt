@@ -1,16 +1,13 @@
 -- Bit planes are a bare layout, and their three contracts are its. Entry i is bit i mod 64 of the w words of group
 -- i div 64, the first the highest.
-use mathlib.Core.Path.{_≡_, refl}
-use mathlib.Core.List.{List}
 use Prim.Native.Nat.{ℕ}
-use lib.IntN.{ℤ}
 use lib.ListN.{length}
 use Rattle.rules.specs.Vertical as Vertical
 use Rattle.packed_entries.specs.NoneTooLarge.{small-of, large-of}
 use Rattle.vertical_turn.specs.ColumnThereAndBack.{length-packed, entries-small, unpack-packed, unused-packed}
 use Rattle.vertical_turn.specs.ColumnThereAndBack.{pack-unpacked}
-use Rattle.promises.specs.Layouts.{Layout, scans, unpacks}
-use Rattle.promises.specs.Writers.{Writer, packs}
+use Rattle.promises.specs.Layouts.{Layout}
+use Rattle.promises.specs.Writers.{Writer}
 use Rattle.promises.specs.Unsigned.{unsigned, unsigned-writer}
 use Rattle.promises.specs.Bare.{Bare}
 use Rattle.promises.specs.VerticalFaults.{Exact, exact, column-exact}
@@ -34,18 +31,3 @@ bare =
       entries-packed =
           λ w n words fits good. let e = exact words w n .1 good in pack-unpacked w n words fits (e .0) (e .1);
     }
-
-pub scan-is : (words : List ℕ) (w n op : ℕ) (a b : ℤ) (before : List ℕ)
-    → Vertical.scan words w n op a b before ≡ scans vertical words w n op a b before
-unfolding Vertical.scan
-scan-is words w n op a b before = refl
-
-pub unpack-is : (words : List ℕ) (w n : ℕ) (before : List ℕ)
-    → Vertical.unpack words w n before ≡ unpacks vertical words w n before
-unfolding Vertical.unpack
-unpack-is words w n before = refl
-
-pub pack-is : (entries : List ℕ) (w : ℕ) (before : List ℕ)
-    → Vertical.pack entries w before ≡ packs vertical writer entries w before
-unfolding Vertical.pack
-pack-is entries w before = refl
