@@ -9,15 +9,25 @@ use libc::STDOUT_FILENO;
 pub struct Line {
     text: [u8; 120],
     used: usize,
+    // was a line before this one not taken where it was written
+    pub lost: bool,
 }
 
 impl Line {
     pub fn new() -> Line
         ensures { λ r. ⌜ held r ≡ [] ⌝ }
     {
+        Line::behind(false)
+    }
+
+    // An empty line behind others.
+    fn behind(lost: bool) -> Line
+        ensures { λ r. ⌜ held r ≡ [] ⌝ }
+    {
         Line {
             text: [b' '; 120],
             used: 0,
+            lost: lost,
         }
     }
 
@@ -33,6 +43,7 @@ impl Line {
         Line {
             text: text,
             used: at + 1,
+            lost: self.lost,
         }
     }
 
@@ -111,9 +122,8 @@ impl Line {
     {
         let text = self.text;
         let all: &[u8; 120] = &text;
-        write_front(fd, all, self.used);
-        io::write_all(fd, b"\n");
-        Line::new()
+        let is_taken = written_front(fd, all, self.used) && io::write_all(fd, b"\n");
+        Line::behind(self.lost || !is_taken)
     }
 
     // The same, on standard output.
@@ -147,8 +157,9 @@ fn digit(d: u8) -> u8
     if d < 10 { b'0' + d } else { b'A' - 10 + d }
 }
 
-fn write_front(fd: i32, text: &[u8], n: usize) {
-    if n <= text.len() {
-        io::write_all(fd, &text[0..n]);
+fn written_front(fd: i32, text: &[u8], n: usize) -> bool {
+    if text.len() < n {
+        return false;
     }
+    io::write_all(fd, &text[0..n])
 }

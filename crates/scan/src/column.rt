@@ -1,14 +1,16 @@
 // A whole column: what is asked of it judged, its pages answered one after the other, the answer told.
+ghost use mathlib.Core.Path.{_≡_};
 ghost use Prim.Native.Nat.{_≤_};
 ghost use lib.ListN.{length};
 use crate::keeping;
+use crate::listing::listed;
+use crate::telling;
+use crate::telling::Span;
 use dictionary_scan::judging::dictionary_fault;
-use libc::STDERR_FILENO;
-use lines::Line;
 use scan_day::passing::CELLS;
-use scan_day::passing::Day;
+use scan_day::passing::Passed;
 use scan_day::passing::page_passed;
-use scan_day::picture;
+use scan_day::seconds::FULL;
 use scan_day::seconds::entries_of;
 use scan_day::seconds::needed;
 use scan_day::seconds::start_of;
@@ -22,36 +24,70 @@ use scan_question::options::Asked;
 use scan_question::options::MOST;
 use scan_question::options::sorted_out;
 use scan_says::Sentence;
+use scan_says::help;
 use scan_says::tell;
 use scan_words::names::DICTIONARY;
+use scan_words::names::HELP;
+use scan_words::names::NO_LAYOUT;
+use scan_words::names::layout;
 use scan_words::names::needs_width;
+use words::counts::min;
 
-// Bytes of a full page's bitmap.
-const BITMAP: usize = 2048;
+// Bytes of the bitmaps of 1,024 full pages, more than can be named.
+const BITMAP: usize = 2097152;
 
 // Room for a dictionary that is too long as well.
 const VALUES: usize = 65540;
 
-pub fn asked(layout: u32) {
+pub fn asked() {
     let mut words = [0usize; MOST];
     let asked = sorted_out(&mut words);
     if asked.wrong {
         return;
     }
+    if asked.words == 0 {
+        tell(Sentence::NoLayout);
+        return;
+    }
+    let named = layout_at(words[0]);
+    match named {
+        HELP => {
+            help();
+        }
+        NO_LAYOUT => {
+            tell(Sentence::WrongLayout(words[0]));
+        }
+        _ => of_layout(named, asked, &words[1..]),
+    }
+}
+
+fn layout_at(at: usize) -> u32 {
+    let mut word = io::buffer();
+    let n = os::arg(at, &mut word);
+    layout(&word[..n])
+}
+
+// The words behind the layout.
+fn of_layout(layout: u32, asked: Asked, words: &[usize]) {
     if needs_width(layout) && !asked.has_width {
         tell(Sentence::NoWidth);
         return;
     }
-    let comparison = comparisons::at_end(&words, asked.words);
+    if !needs_width(layout) && asked.has_width {
+        tell(Sentence::OwnWidths);
+        return;
+    }
+    let m = one_less(asked.words);
+    let comparison = comparisons::at_end(words, m);
     if comparison.words == 0 {
         return;
     }
-    split(
-        question(layout, asked, comparison),
-        asked,
-        comparison.words,
-        &words,
-    );
+    let before = before_comparison(m, comparison.words, words);
+    split(question(layout, asked, comparison), asked, &words[0..before]);
+}
+
+fn one_less(words: usize) -> usize {
+    if words == 0 { 0 } else { words - 1 }
 }
 
 fn question(layout: u32, asked: Asked, comparison: Comparison) -> Question {
@@ -62,22 +98,6 @@ fn question(layout: u32, asked: Asked, comparison: Comparison) -> Question {
         a: comparison.a,
         b: comparison.b,
     }
-}
-
-// The words before the comparison: the dictionary where there is one, and the pages.
-fn split(q: Question, asked: Asked, taken: usize, words: &[usize]) {
-    let first = (q.layout == DICTIONARY) as usize;
-    let last = before_comparison(asked.words, taken, words);
-    if last <= first {
-        tell(Sentence::NoPages(first));
-        return;
-    }
-    let entries = column_entries(asked, last - first - 1);
-    if needed(entries) < last - first {
-        tell(Sentence::ManyPages(entries, last - first));
-        return;
-    }
-    with_dictionary(q, asked, entries, place(words, 0), &words[first..last]);
 }
 
 // How many of the m words stand before the comparison.
@@ -93,22 +113,42 @@ fn before_comparison(m: usize, taken: usize, words: &[usize]) -> usize
     m - taken
 }
 
-// The column's entries: given, or by the pages before the last and the last page's.
-fn column_entries(asked: Asked, before: usize) -> usize {
-    if asked.has_last {
-        return start_of(before) + asked.last as usize;
+// The words before the comparison: the dictionary where there is one, and the pages.
+fn split(q: Question, asked: Asked, words: &[usize]) {
+    let first = (q.layout == DICTIONARY) as usize;
+    let last = words.len();
+    if last <= first {
+        tell(Sentence::NoPages(first));
+        return;
     }
-    asked.entries as usize
+    let entries = column_entries(asked, last - first - 1);
+    if needed(entries as usize) < last - first {
+        tell(Sentence::ManyPages(entries as usize, last - first));
+        return;
+    }
+    if keeping::is_read(asked, words) {
+        return;
+    }
+    with_dictionary(q, asked, entries, place(words, 0), &words[first..]);
 }
 
-fn with_dictionary(q: Question, asked: Asked, entries: usize, at: usize, files: &[usize]) {
+// The column's entries: given, or by the pages before the last and the last page's.
+fn column_entries(asked: Asked, before: usize) -> u32 {
+    if asked.has_last {
+        return (start_of(before) + min(asked.last as usize, FULL)) as u32;
+    }
+    asked.entries
+}
+
+fn with_dictionary(q: Question, asked: Asked, entries: u32, at: usize, files: &[usize]) {
     if q.layout != DICTIONARY {
-        with_bitmap(q, asked, entries, &[], files);
+        answered(q, asked, entries, &[], files);
         return;
     }
     let mut dictionary = [0u8; VALUES];
     let file = files::read(at, &mut dictionary);
     if !file.is_whole {
+        tell(Sentence::NoDictionary);
         return;
     }
     let n = file.bytes;
@@ -118,108 +158,128 @@ fn with_dictionary(q: Question, asked: Asked, entries: usize, at: usize, files: 
         tell(Sentence::NoDictionary);
         return;
     }
-    with_bitmap(q, asked, entries, &dictionary[..n], files);
+    answered(q, asked, entries, &dictionary[..n], files);
 }
 
-// Below 0 stands for no file.
-fn with_bitmap(q: Question, asked: Asked, entries: usize, dictionary: &[u8], files: &[usize]) {
-    if asked.bitmap == 0 {
-        told(q, asked, entries, dictionary, files, -1);
-        return;
-    }
-    let out = keeping::made(asked.bitmap);
-    if out < 0 {
-        return;
-    }
-    told(q, asked, entries, dictionary, files, out);
-    libc::close(out);
+fn room() -> [u8; BITMAP]
+    ensures { λ r. ⌜ 2097152 ≡ length r ⌝ }
+{
+    [0; BITMAP]
 }
 
-fn told(q: Question, asked: Asked, entries: usize, dictionary: &[u8], files: &[usize], out: i32) {
+// All pages answered, their bitmap kept, and the answer told.
+fn answered(q: Question, asked: Asked, entries: u32, dictionary: &[u8], files: &[usize]) {
     let mut selected = [0u32; CELLS];
     let mut answered = [0u32; CELLS];
-    let before = Day::new(asked.numbers);
-    let day = walked(
+    let mut bitmap = room();
+    let before = SoFar {
+        passed: Passed::new(),
+        is_listing: asked.numbers,
+    };
+    let after = walked(
         before,
         q,
+        asked.start,
         entries,
         dictionary,
         files,
-        out,
+        &mut bitmap,
         &mut selected,
         &mut answered,
     );
-    let sentence = picture::sentence(day);
+    let passed = after.passed;
+    keeping::kept(asked, entries as usize, files.len(), &bitmap);
+    let span = span(asked, entries, files.len());
     if asked.numbers {
-        sentence.write(STDERR_FILENO);
+        telling::summed_up(span, passed);
     } else {
-        sentence.end();
-        drawn(picture::strip(entries, &answered, &selected));
+        telling::drawn(span, passed, &answered, &selected);
     }
-    tell(Sentence::Lost(day.lost));
-    tell(Sentence::Missing(entries, files.len()));
+    if 0 < passed.lost {
+        tell(Sentence::Lost(passed.lost));
+    }
+    if files.len() < needed(entries as usize) {
+        tell(Sentence::Missing(span.day, span.shown));
+    }
 }
 
-// The strip of the day's cells, between the hours and what its characters mean.
-fn drawn(strip: Line) {
-    Line::new()
-        .words(b"00 01 02 03 04 05 06 07 08 09 10 11 12 13 14 15 16 17 18 19 20 21 22 23")
-        .end();
-    strip
-        .end()
-        .words(b"20 minutes a character: blank none, . : + by thirds, # all, ? not answered")
-        .end();
+// Where a column stands of which so many pages are named.
+fn span(asked: Asked, entries: u32, pages: usize) -> Span {
+    let from = asked.start as usize;
+    let end = from + entries as usize;
+    Span {
+        day: asked.day,
+        from: from,
+        end: end,
+        shown: min(from + start_of(pages), end),
+    }
 }
 
-// The pages one after the other.
+// What the pages so far leave, and whether the numbers of their selected seconds are still listed.
+struct SoFar {
+    passed: Passed,
+    is_listing: bool,
+}
+
+// The pages one after the other; the column's first second is `from`.
 fn walked(
-    before: Day,
+    before: SoFar,
     q: Question,
-    entries: usize,
+    from: u32,
+    entries: u32,
     dictionary: &[u8],
     files: &[usize],
-    out: i32,
+    bitmap: &mut [u8],
     selected: &mut [u32; CELLS],
     answered: &mut [u32; CELLS],
-) -> Day {
-    let mut day = before;
+) -> SoFar {
+    let mut so_far = before;
     let mut k: usize = 0;
     while k < files.len() {
-        day = page_answered(
-            day,
+        so_far = page_answered(
+            so_far,
             q,
+            from,
             entries,
-            dictionary,
             files[k],
             k,
-            out,
+            dictionary,
+            bitmap,
             selected,
             answered,
         );
         k += 1;
     }
-    day
+    so_far
 }
 
-// Page k, whose file the argument at `at` names.
+// Page k, whose file the word at `at` names.
 fn page_answered(
-    day: Day,
+    so_far: SoFar,
     q: Question,
-    entries: usize,
-    dictionary: &[u8],
+    from: u32,
+    entries: u32,
     at: usize,
     k: usize,
-    out: i32,
+    dictionary: &[u8],
+    bitmap: &mut [u8],
     selected: &mut [u32; CELLS],
     answered: &mut [u32; CELLS],
-) -> Day {
-    let mut bitmap = [0u8; BITMAP];
-    let n = entries_of(k, entries);
-    let is_answered = answering::answered(q, dictionary, at, n, &mut bitmap);
-    keeping::kept(out, &bitmap, n);
-    if !is_answered {
-        return day.loses();
-    }
+) -> SoFar {
+    let passed = so_far.passed;
+    let n = entries_of(k, entries as usize);
     let start = start_of(k);
-    page_passed(day, start, start + n, &bitmap, selected, answered)
+    let place = min(start / 8, bitmap.len());
+    if !answering::answered(q, dictionary, at, n, &mut bitmap[place..]) {
+        return SoFar {
+            passed: passed.loses(),
+            is_listing: so_far.is_listing,
+        };
+    }
+    let first = from as usize + start;
+    let after = page_passed(passed, first, first + n, &bitmap[place..], selected, answered);
+    SoFar {
+        passed: after,
+        is_listing: so_far.is_listing && listed(&bitmap[place..], start, start + n),
+    }
 }

@@ -3,66 +3,48 @@
 use mathlib.Core.Path.{_≡_, sym, ap, _∙_}
 use mathlib.Core.Bool.{Bool, true, false, cond, _&&_}
 use mathlib.Core.List.{List}
-use Prim.Native.Nat.{ℕ, zero, suc, _+_, _-_, _/_, _%_, _≤_}
+use Prim.Native.Nat.{ℕ, zero, suc, _+_, _-_, _/_, _≤_}
 use lib.Dec.{eqb, ltb}
 use lib.ListN.{getD, set}
 use borrow.Author.Tests.{eq-eqb, ne-eqb}
 use native.Mathlib.Omega.{arith}
 use Rattle.rules.specs.Bits.{flag, bitAt}
 use Rattle.rules.specs.Bits.Order.{lowFirst}
-use Rattle.scan_day.specs.declared.passing.Day.{Day}
+use Rattle.scan_day.specs.declared.passing.Passed.{Passed}
 
 -- one more, where 64 bits have room for it
 abbrev pub more : ℕ → ℕ
 more x = cond (ltb x 18446744073709551615) (x + 1) x
 
-abbrev pub fresh : Bool → Day
-fresh listing = record { read = 0; count = 0; first = 0; last = 0; lost = 0; listing = listing }
+abbrev pub fresh : Passed
+fresh = record { read = 0; count = 0; first = 0; last = 0; lost = 0 }
 
-abbrev pub losing : Day → Day
-losing d =
-    record {
-      read = d .read;
-      count = d .count;
-      first = d .first;
-      last = d .last;
-      lost = more (d .lost);
-      listing = d
-          .listing;
-    }
+abbrev pub losing : Passed → Passed
+losing p =
+    record { read = p .read; count = p .count; first = p .first; last = p .last; lost = more (p .lost) }
 
-abbrev pub reading : Day → Day
-reading d =
-    record {
-      read = more (d .read);
-      count = d .count;
-      first = d .first;
-      last = d .last;
-      lost = d .lost;
-      listing = d
-          .listing;
-    }
+abbrev pub reading : Passed → Passed
+reading p =
+    record { read = more (p .read); count = p .count; first = p .first; last = p .last; lost = p .lost }
 
-abbrev pub selecting : ℕ → Day → Day
-selecting s d =
+abbrev pub selecting : ℕ → Passed → Passed
+selecting s p =
     record {
-      read = d .read;
-      count = more (d .count);
-      first = cond (eqb (d .count) 0) s (d .first);
+      read = p .read;
+      count = more (p .count);
+      first = cond (eqb (p .count) 0) s (p .first);
       last = s;
-      lost = d
-          .lost;
-      listing = d .listing;
+      lost = p .lost;
     }
 
 -- a second more, selected or not
-abbrev pub passing : Bool → ℕ → Day → Day
-passing chosen s d = cond chosen (selecting s (reading d)) (reading d)
+abbrev pub passing : Bool → ℕ → Passed → Passed
+passing chosen s p = cond chosen (selecting s (reading p)) (reading p)
 
--- one second more in its cell of twenty minutes, which has room for 1,200; past the day there are no cells
+-- one second more in its cell of twenty minutes, which has room for 1,200; past 195 days there are no cells
 abbrev pub inCell : ℕ → List ℕ → List ℕ
 inCell s cells =
-    cond (ltb (s / 1200) 72 && ltb (getD cells (s / 1200) 0) 1200)
+    cond (ltb (s / 1200) 14040 && ltb (getD cells (s / 1200) 0) 1200)
     (set cells (s / 1200) (getD cells (s / 1200) 0 + 1)) cells
 
 -- the same of a second that is counted, or is not
@@ -74,15 +56,15 @@ unfoldable pub stepped : {A : Type 0} → (Bool → ℕ → A → A) → (ℕ �
 stepped step chosen from zero a = a
 stepped step chosen from (suc n) a = step (chosen (from + n)) (from + n) (stepped step chosen from n a)
 
-abbrev pub passed : (ℕ → Bool) → ℕ → ℕ → Day → Day
+abbrev pub passed : (ℕ → Bool) → ℕ → ℕ → Passed → Passed
 passed = stepped passing
 
 abbrev pub counts : (ℕ → Bool) → ℕ → ℕ → List ℕ → List ℕ
 counts = stepped counting
 
--- is a second of a page selected, its place on the page being the bit's
-abbrev pub chosenBy : List ℕ → ℕ → Bool
-chosenBy bitmap s = eqb (bitAt lowFirst 8 bitmap (s % 16384)) 1
+-- is a second of a page selected, bit 0 of its bitmap being the page's first second
+abbrev pub chosenBy : List ℕ → ℕ → ℕ → Bool
+chosenBy bitmap start s = eqb (bitAt lowFirst 8 bitmap (s - start)) 1
 
 pub flag-is : (t : Bool) (x : ℕ) → flag t ≡ x → t ≡ eqb x 1
 flag-is true x e = sym (eq-eqb x 1 (sym e))

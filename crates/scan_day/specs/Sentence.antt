@@ -5,12 +5,13 @@ use Prim.Native.Nat.{ℕ}
 use lib.Dec.{eqb}
 use Rattle.lines.specs.Text.{ascii, decimal}
 use Rattle.scan_day.specs.Clock.{clockTime}
-use Rattle.scan_day.specs.declared.passing.Day.{Day}
+use Rattle.scan_day.specs.declared.passing.Passed.{Passed}
 
-unfoldable pub sentenceOf : Day → List ℕ
-sentenceOf d =
-    cond (eqb (d .read) 0) (ascii "no second was read")
-    (cond (eqb (d .count) 0) (ascii "none of " ++ (decimal (d .read) ++ ascii " seconds selected"))
-    (decimal (d .count)
-    ++ (ascii " of " ++ (decimal (d .read) ++ (ascii " seconds selected, the first at "
-    ++ (clockTime (d .first) ++ (ascii ", the last at " ++ clockTime (d .last))))))))
+-- the column begins on a day
+unfoldable pub sentenceOf : ℕ → Passed → List ℕ
+sentenceOf day p =
+    cond (eqb (p .read) 0) (ascii "no second was read")
+    (cond (eqb (p .count) 0) (ascii "none of " ++ (decimal (p .read) ++ ascii " seconds selected"))
+    (decimal (p .count)
+    ++ (ascii " of " ++ (decimal (p .read) ++ (ascii " seconds selected, the first at "
+    ++ (clockTime day (p .first) ++ (ascii ", the last at " ++ clockTime day (p .last))))))))

@@ -1,7 +1,7 @@
-// A second of the day by the clock.
+// A second by the clock and, past the first day, its day.
 ghost use mathlib.Core.Path.{_≡_};
 ghost use Rattle.lines.specs.Text.{held, laid};
-ghost use Rattle.scan_day.specs.Clock.{twoDigits, clockTime};
+ghost use Rattle.scan_day.specs.Clock.{twoDigits, clockTime, ofDay};
 use lines::Line;
 
 // Two digits, also of numbers below ten.
@@ -14,11 +14,22 @@ fn two_digits(line: Line, n: usize) -> Line
     line.number(n as u64)
 }
 
-// Hour, minute and second; hours go on past the day.
-pub fn clock(line: Line, second: usize) -> Line
-    ensures { λ r. ⌜ held r ≡ laid (held line) (clockTime second) ⌝ }
+// A day by its number; the first goes without saying.
+fn of_day(line: Line, day: u64) -> Line
+    ensures { λ r. ⌜ held r ≡ laid (held line) (ofDay day) ⌝ }
 {
-    let hours = two_digits(line, second / 3600).words(b":");
+    if day == 1 {
+        return line.words(b"");
+    }
+    line.words(b" of day ").number(day)
+}
+
+// Hour, minute and second of a second, which are counted from the beginning of a day.
+pub fn clock(line: Line, day: u32, second: usize) -> Line
+    ensures { λ r. ⌜ held r ≡ laid (held line) (clockTime day second) ⌝ }
+{
+    let hours = two_digits(line, second / 3600 % 24).words(b":");
     let minutes = two_digits(hours, second / 60 % 60).words(b":");
-    two_digits(minutes, second % 60)
+    let time = two_digits(minutes, second % 60);
+    of_day(time, day as u64 + (second / 86400) as u64)
 }

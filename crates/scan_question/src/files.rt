@@ -1,6 +1,7 @@
 // Files named by arguments.
 ghost use Rattle.io.specs.Counts.{Counts};
 use scan_says::Sentence;
+use scan_says::failed;
 use scan_says::tell;
 
 // What a file held: how many bytes of it were read, and whether that is all.
@@ -17,7 +18,7 @@ pub fn read(at: usize, places: &mut [u8]) -> Contents
     let n = os::arg(at, &mut name);
     let fd = os::open_read(&name[..n]);
     if fd < 0 {
-        os::fail(&name[..n]);
+        failed(&name[..n]);
         return Contents {
             bytes: 0,
             is_whole: false,
@@ -37,7 +38,7 @@ fn ended(fd: i32, at: usize, name: &[u8]) -> bool {
     let mut more = [0u8; 1];
     let got = libc::read(fd, &mut more);
     if got < 0 {
-        os::fail(name);
+        failed(name);
     }
     if got > 0 {
         tell(Sentence::TooLong(at));

@@ -34,13 +34,14 @@ unfoldable pub operators : List (List ℕ)
 operators = words (ascii "equal not-equal less at-most greater at-least between not-between")
 
 unfoldable pub layouts : List (List ℕ)
-layouts = words (ascii "horizontal planes runs delta dictionary")
+layouts = words (ascii "horizontal planes runs delta dictionary help")
 
 unfoldable pub options : List (List ℕ)
-options = words (ascii "--width --entries --last --bitmap --numbers")
+options = words (ascii "--width --entries --last --bitmap --numbers --start --day")
 
-unfoldable pub helps : List (List ℕ)
-helps = words (ascii "help --help -h")
+-- asked for instead of a scan
+unfoldable pub insteads : List (List ℕ)
+insteads = words (ascii "--version --help -h")
 
 -- `0` to `7`
 abbrev pub operatorDigit : ℕ → ℕ

@@ -4,7 +4,7 @@ ghost use Prim.Native.Nat.{_≤_};
 ghost use lib.Dec.{ltb};
 ghost use lib.ListN.{length};
 ghost use Rattle.scan_words.specs.Names.{place, words, operators, operatorNumber, layouts, options};
-ghost use Rattle.scan_words.specs.Names.{dashed, helps};
+ghost use Rattle.scan_words.specs.Names.{dashed, insteads};
 use bytes::scan::find;
 use check::same;
 
@@ -23,7 +23,10 @@ pub const DELTA: u32 = 3;
 
 pub const DICTIONARY: u32 = 4;
 
-pub const NO_LAYOUT: u32 = 5;
+// Typed where a layout stands, it asks for help.
+pub const HELP: u32 = 5;
+
+pub const NO_LAYOUT: u32 = 6;
 
 pub const WIDTH: u32 = 0;
 
@@ -35,7 +38,16 @@ pub const BITMAP: u32 = 3;
 
 pub const NUMBERS: u32 = 4;
 
-pub const NO_OPTION: u32 = 5;
+pub const START: u32 = 5;
+
+pub const DAY: u32 = 6;
+
+pub const NO_OPTION: u32 = 7;
+
+pub const VERSION: u32 = 0;
+
+// What is asked for instead of a scan: the version, help by two names, or nothing.
+pub const NOTHING: u32 = 3;
 
 // Which of some names a word is, the first being 0; as many as there are where it is none. A blank stands
 // between names.
@@ -87,7 +99,7 @@ pub fn operator_number(word: &[u8]) -> u32
 pub fn layout(word: &[u8]) -> u32
     ensures { λ r. ⌜ r ≡ place (now (word .entry)) layouts ⌝ }
 {
-    place_in(word, b"horizontal planes runs delta dictionary")
+    place_in(word, b"horizontal planes runs delta dictionary help")
 }
 
 // Has a page of this layout no width of its own.
@@ -111,12 +123,15 @@ pub fn is_option(word: &[u8]) -> bool
 pub fn option(word: &[u8]) -> u32
     ensures { λ r. ⌜ r ≡ place (now (word .entry)) options ⌝ }
 {
-    place_in(word, b"--width --entries --last --bitmap --numbers")
+    place_in(
+        word,
+        b"--width --entries --last --bitmap --numbers --start --day",
+    )
 }
 
-// Does a word ask for help.
-pub fn is_help(word: &[u8]) -> bool
-    ensures { λ r. ⌜ r ≡ ltb (place (now (word .entry)) helps) 3 ⌝ }
+// What a word asks for instead of a scan, or NOTHING.
+pub fn instead(word: &[u8]) -> u32
+    ensures { λ r. ⌜ r ≡ place (now (word .entry)) insteads ⌝ }
 {
-    place_in(word, b"help --help -h") < 3
+    place_in(word, b"--version --help -h")
 }

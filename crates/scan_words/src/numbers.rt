@@ -42,7 +42,7 @@ fn longer(m: u64, digit: u8) -> u64
 }
 
 // What the word's digits from `from` on spell, at most 2^63 + 1; or NONE.
-fn magnitude(word: &[u8], from: usize) -> u64
+pub fn magnitude(word: &[u8], from: usize) -> u64
     ensures { λ r. ⌜ r ≡ capped (spelled (drop from (now (word .entry)))) ⌝ }
 {
     if word.len() <= from {

@@ -7,14 +7,14 @@ use Rattle.scan_day.proofs.passing.counted.Statement.{statement}
 use Rattle.scan_day.proofs.passing.counted.Tie as tie
 
 returns : tie.Need-returns
-returns c = let a = c .before .args in rw (le-ltb (a .second / 1200) 72 (c .if1 .taken))
+returns c = let a = c .before .args in rw (le-ltb (a .second / 1200) 14040 (c .if1 .taken))
 
 returns-2 : tie.Need-returns-2
 returns-2 c =
     let e = c .before .before in
     let a = e .before .args in
     rw (
-      lt-ltb (a .second / 1200) 72 (e .if1 .left),
+      lt-ltb (a .second / 1200) 14040 (e .if1 .left),
       lt-ltb (getD (a .cells .now) (a .second / 1200) 0) 1200 (c .if2 .taken),
     )
 
@@ -23,7 +23,7 @@ returns-3 c =
     let e = c .before .before in
     let a = e .before .args in
     rw (
-      lt-ltb (a .second / 1200) 72 (e .if1 .left),
+      lt-ltb (a .second / 1200) 14040 (e .if1 .left),
       le-ltb (getD (a .cells .now) (a .second / 1200) 0) 1200 (c .if2 .left),
     )
 

@@ -15,11 +15,11 @@ returns c =
 
 returns-2 : tie.Need-returns-2
 returns-2 c =
-    let e = c .before .before .before .before in
+    let e = c .before .before .before in
     let a = e .before .before .before .before .args in
     let yes : a .is-selected ≡ true = not-false (a .is-selected) (e .if1 .left) in (
       rw yes (c .selects .ensures ∙ ap (selecting (a .second)) (e .before .reads .ensures)),
-      (rw yes (c .before .before .counted2 .ensures), e .before .before .counted .ensures),
+      (rw yes (c .before .counted2 .ensures), e .before .before .counted .ensures),
     )
 
 pub second-passed-spec : {M : Type 1} → statement M
@@ -27,4 +27,4 @@ second-passed-spec =
     tie.close
     (tie.spec
     (λ c κs. search needs) (λ c κs. search needs) returns (λ c κs. search needs) (λ c κs. search needs)
-    (λ c κs. search needs) (λ c κs. search needs) (λ c κs. search needs) returns-2)
+    returns-2)

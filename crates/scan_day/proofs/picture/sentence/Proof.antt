@@ -12,24 +12,24 @@ use Rattle.scan_day.proofs.picture.sentence.Tie as tie
 returns : tie.Need-returns
 unfolding sentenceOf ascii
 returns c =
-    let d = c .before .before .before .before .before .args .day in
-    rw (eq-eqb (d .read) 0 (omega arith)) (cc)
+    let a = c .before .before .before .before .before .args in
+    rw (eq-eqb (a .passed .read) 0 (omega arith)) (cc)
 
 returns-2 : tie.Need-returns-2
 unfolding sentenceOf ascii
 returns-2 c =
-    let d = c .before .before .before .before .before .before .before .before .before .before .args .day in
-    rw (ne-eqb (d .read) 0 (omega arith), eq-eqb (d .count) 0 (omega arith))
-    (cc (laid-three [] (ascii "none of ") (decimal (d .read)) (ascii " seconds selected")))
+    let a = c .before .before .before .before .before .before .before .before .before .before .args in
+    rw (ne-eqb (a .passed .read) 0 (omega arith), eq-eqb (a .passed .count) 0 (omega arith))
+    (cc (laid-three [] (ascii "none of ") (decimal (a .passed .read)) (ascii " seconds selected")))
 
 returns-3 : tie.Need-returns-3
 unfolding sentenceOf ascii
 returns-3 c =
     let e = c .before .before .before .before .before .before .before .before .before .before .before in
-    let d = e .before .before .before .before .args .day in
-    rw (ne-eqb (d .read) 0 (e .before .before .if1 .left), ne-eqb (d .count) 0 (e .if2 .left))
-    (seven-pieces (decimal (d .count)) (ascii " of ") (decimal (d .read)) (ascii " seconds selected, the first at ")
-    (clockTime (d .first)) (ascii ", the last at ") (clockTime (d .last))
+    let a = e .before .before .before .before .args in
+    rw (ne-eqb (a .passed .read) 0 (e .before .before .if1 .left), ne-eqb (a .passed .count) 0 (e .if2 .left))
+    (seven-pieces (decimal (a .passed .count)) (ascii " of ") (decimal (a .passed .read)) (ascii " seconds selected, the first at ")
+    (clockTime (a .day) (a .passed .first)) (ascii ", the last at ") (clockTime (a .day) (a .passed .last))
     (c .before .before .before .before .before .before .before .before .before .before .new3 .ensures)
     (c .before .before .before .before .before .before .before .before .before .number2 .ensures)
     (c .before .before .before .before .before .before .before .words4 .ensures)

@@ -11,11 +11,11 @@ use Rattle.scan_day.proofs.picture.strip.Statement.{statement}
 use Rattle.scan_day.proofs.picture.strip.Tie as tie
 
 abbrev Inv-loop : tie.InvT-loop
-Inv-loop entries answered selected line₀ c₀ line c =
-    (c ≤ 72) × (held line ≡ laid [] (tabulate c (cellAt entries answered selected)))
+Inv-loop day from end answered selected line₀ c₀ line c =
+    (c ≤ 72) × (held line ≡ laid [] (tabulate c (cellAt day from end answered selected)))
 
 abbrev μ-loop : tie.MeasureT-loop
-μ-loop entries answered selected line₀ c₀ line c = 72 - c
+μ-loop day from end answered selected line₀ c₀ line c = 72 - c
 
 loop-holds : tie.Need-loop-holds Inv-loop μ-loop
 unfolding laid tabulate
@@ -27,12 +27,15 @@ loop-again c =
     let s = d .before .before .before in
     let l = s .before .before in
     let a = l .before .before .args in
-    let f = cellAt (a .entries) (a .answered .now) (a .selected .now) in
+    let f = cellAt (a .day) (a .from) (a .end) (a .answered .now) (a .selected .now) in
     let cell : d .drawn-cell .result ≡ f (l .loop .c) = rw (s .seconds-of .ensures) at (d .drawn-cell .ensures) in (
       search needs,
       one-more-cell f (l .loop .c) (held (l .loop .line)) (held (c .words .result)) (l .loop .inv .1)
           (rw cell at (c .words .ensures)),
     )
+
+loop-less : tie.Need-loop-less Inv-loop μ-loop
+loop-less c = omega (arith, c .before .before .before .before .before .before .loop-test .taken)
 
 returns : tie.Need-returns Inv-loop μ-loop
 unfolding stripOf
@@ -41,12 +44,13 @@ returns c =
     let a = l .before .before .args in
     let all : l .loop .c ≡ 72 = omega arith in
     l .loop .inv .1
-    ∙ ap (λ (n : ℕ). laid [] (tabulate n (cellAt (a .entries) (a .answered .now) (a .selected .now)))) all
+    ∙ ap (λ (n : ℕ). laid [] (tabulate n (cellAt (a .day) (a .from) (a .end) (a .answered .now) (a .selected .now)))) all
 
 pub strip-spec : {M : Type 1} → statement M
 strip-spec =
     tie.close
     (tie.spec
-    Inv-loop μ-loop (λ c κs. search needs) loop-holds (λ c κs. search needs) (λ c. search needs)
-    (λ c. search needs) (λ c. search needs) (λ c. search needs) (λ c κs. search needs) (λ c. search needs)
-    (λ c κs. search needs) (λ c. search needs) (λ c. search needs) loop-again returns)
+    Inv-loop μ-loop (λ c κs. search needs) loop-holds (λ c. search needs) (λ c. search needs)
+    (λ c κs. search needs) (λ c. search needs) (λ c. search needs) (λ c. search needs) (λ c. search needs)
+    (λ c κs. search needs) (λ c. search needs) (λ c κs. search needs) (λ c. search needs)
+    loop-less loop-again returns)

@@ -9,10 +9,15 @@ returns-2 c =
     left-same (c .spoiled .ensures)
     (c .before .before .before .before .before .before .before .before .before .pre .1)
 
+returns-3 : tie.Need-returns-3
+returns-3 c =
+    left-same (c .value .ensures)
+    (c .before .before .before .before .before .before .before .before .before .before .before .pre .1)
+
 returns-5 : tie.Need-returns-5
 returns-5 c =
-    left-same (c .number .ensures)
-    (c .before .before .before .before .before .before .before .before .before .before .before .pre .1)
+    let e = c .before .before .before .before .before .before .before in
+    left-same (c .opened .ensures) (e .before .before .before .before .before .before .before .before .pre .1)
 
 pub argument-spec : {M : Type 1} → statement M
 argument-spec =
@@ -20,5 +25,6 @@ argument-spec =
     (tie.spec
     (λ c. search needs) (λ c κs. search needs) (λ c. search needs) (λ c κs. search needs)
     (λ c κs. search needs) (λ c κs. search needs) returns-2 (λ c. search needs) (λ c. search needs)
-    (λ c κs. search needs) (λ c. search needs) (λ c. search needs) (λ c κs. search needs)
-    (λ c. search needs) (λ c. search needs) (λ c. search needs) returns-5)
+    (λ c κs. search needs) returns-3 (λ c. search needs) (λ c. search needs) (λ c κs. search needs)
+    (λ c κs. search needs) (λ c. search needs) (λ c. search needs) (λ c. search needs) (λ c. search needs)
+    (λ c κs. search needs) returns-5)

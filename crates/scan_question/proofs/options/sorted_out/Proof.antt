@@ -1,4 +1,4 @@
--- `scan_question::options::sorted_out` meets its contract: each turn takes an argument behind the layout.
+-- `scan_question::options::sorted_out` meets its contract: each turn takes a word behind the program's name.
 use Prim.Native.Nat.{_-_, _≤_}
 use mathlib.Core.Path.{_≡_}
 use lib.ListN.{length}
@@ -8,7 +8,7 @@ use Rattle.scan_question.proofs.options.sorted_out.Statement.{statement
 use Rattle.scan_question.proofs.options.sorted_out.Tie as tie
 
 abbrev Inv-loop : tie.InvT-loop
-Inv-loop words₀ all asked₀ at₀ words asked at = (length words ≡ length words₀) × Left (asked .words) words × (2 ≤ at)
+Inv-loop words₀ all asked₀ at₀ words asked at = (length words ≡ length words₀) × Left (asked .words) words × (1 ≤ at)
 
 abbrev μ-loop : tie.MeasureT-loop
 μ-loop words₀ all asked₀ at₀ words asked at = all - at
@@ -21,5 +21,5 @@ sorted-out-spec =
     tie.close
     (tie.spec
     Inv-loop μ-loop (λ c κs. search needs) (λ c κs. search needs) (λ c κs. search needs) (λ c. search needs)
-    (λ c. search needs) (λ c κs. search needs) (λ c. search needs) (λ c. search needs) (λ c. search needs)
-    (λ c κs. search needs) (λ c. search needs) returns-2)
+    (λ c κs. search needs) (λ c. search needs) (λ c κs. search needs) (λ c. search needs) (λ c. search needs)
+    (λ c. search needs) (λ c κs. search needs) (λ c. search needs) returns-2)

@@ -1,9 +1,9 @@
--- `scan_day::passing::Day::selects` meets its contract: the first is kept once there is one.
+-- `scan_day::passing::Passed::selects` meets its contract: the first is kept once there is one.
 use native.Mathlib.Omega.{arith}
 use borrow.Author.Tests.{eq-eqb, ne-eqb}
 use borrow.Author.Needs.{needs}
-use Rattle.scan_day.proofs.passing.Day.selects.Statement.{statement}
-use Rattle.scan_day.proofs.passing.Day.selects.Tie as tie
+use Rattle.scan_day.proofs.passing.Passed.selects.Statement.{statement}
+use Rattle.scan_day.proofs.passing.Passed.selects.Tie as tie
 
 returns : tie.Need-returns
 returns c = rw (c .before .one-more .ensures, eq-eqb (c .before .before .args .self .count) 0 (omega arith))
