@@ -1,19 +1,22 @@
 /*
  * Cahermisk: compares, unpacks and packs the columns of a packed log.
  *
- * Every function answers with a code and a number (cahermisk_runs_next with
- * several), for any bytes and any numbers it is given. Code 0 is acceptance.
- * Every other code refuses: its number is 0, and nothing that was lent has
- * changed.
+ * Every function that is lent a place answers with a code and a number
+ * (cahermisk_runs_next with several), for any bytes and any numbers it is given.
+ * Code 0 is acceptance. Every other code refuses: its number is 0, and nothing that
+ * was lent has changed.
  *
  * What a caller must keep to, and all that is asked:
- *  - a pointer is valid for the length given beside it, aligned for its type,
- *    and not null, also where that length is 0;
+ *  - a pointer is valid for the length given beside it and aligned for its type;
+ *    with length 0 it may be null;
  *  - a place lent for writing overlaps no other place of the same call, and
  *    nothing else reads or writes it during the call.
  * A length counts elements (bytes of a page, dictionary or bitmap, words of bit
  * planes, places for entries).
- * The functions keep no state: threads may call them at the same time.
+ *
+ * The functions keep no state, allocate nothing and call nothing but memset:
+ * several threads may call them at the same time, and so may a signal handler. A
+ * call takes at most CAHERMISK_STACK_BYTES of stack.
  */
 #ifndef CAHERMISK_H
 #define CAHERMISK_H
@@ -26,6 +29,23 @@ extern "C" {
 #endif
 
 /* ---- What all layouts share -------------------------------------------- */
+
+/* The version: major * 1000000 + minor * 1000 + patch. */
+#define CAHERMISK_VERSION 2000
+#define CAHERMISK_VERSION_TEXT "0.2.0"
+
+/*
+ * The version of the library that is linked: CAHERMISK_VERSION as it was when that
+ * was made. While the major number is 0, a new minor number may change what
+ * callers rely on.
+ */
+uint32_t cahermisk_version(void);
+
+/*
+ * As much stack as any call takes. As compiled for x86-64 it takes 3,128 bytes at
+ * most, and for Arm 3,760: cahermisk_dictionary_unpack does (tools/stack).
+ */
+#define CAHERMISK_STACK_BYTES 4096
 
 /* The limits of a column. */
 #define CAHERMISK_MAX_WIDTH 32
@@ -56,6 +76,33 @@ enum cahermisk_code {
     CAHERMISK_MINIBLOCK_TOO_WIDE = 17     /* delta writer: a miniblock needs more than 32 bits */
 };
 
+/* What a code means, in words. */
+static inline const char *cahermisk_code_text(uint32_t code) {
+    switch (code) {
+    case CAHERMISK_ACCEPTED: return "accepted";
+    case CAHERMISK_WIDTH_ABOVE_LIMIT: return "width above 32";
+    case CAHERMISK_TOO_MANY_ENTRIES: return "more than 16,384 entries";
+    case CAHERMISK_OPERATOR_ABOVE_7: return "operator above 7";
+    case CAHERMISK_OUTPUT_TOO_SHORT: return "output too short";
+    case CAHERMISK_INPUT_ENDS_TOO_EARLY: return "input ends too early";
+    case CAHERMISK_INPUT_LEFT_OVER: return "input left over";
+    case CAHERMISK_UNUSED_BITS_NOT_0: return "unused bits not 0";
+    case CAHERMISK_VALUE_TOO_LARGE: return "entry or run value not below 2^width";
+    case CAHERMISK_NUMBER_BEYOND_ITS_BITS: return "variable-length number beyond 32 bits";
+    case CAHERMISK_RUN_OF_LENGTH_0: return "run of length 0";
+    case CAHERMISK_RUN_PAST_N:
+        return "run goes too far past n, or one run is asked for with n covered";
+    case CAHERMISK_DELTA_SHAPE: return "delta shape";
+    case CAHERMISK_DELTA_COUNT_NOT_N: return "delta count is not n";
+    case CAHERMISK_MALFORMED_DICTIONARY:
+        return "dictionary: length no multiple of 4, over 65,536 bytes, or values not strictly ascending";
+    case CAHERMISK_INDEX_TOO_LARGE: return "index not below the dictionary's count";
+    case CAHERMISK_UNNEEDED_WIDTH_NOT_0: return "width byte of an unneeded miniblock not 0";
+    case CAHERMISK_MINIBLOCK_TOO_WIDE: return "delta writer: a miniblock needs more than 32 bits";
+    default: return "a code that this header does not know";
+    }
+}
+
 /*
  * The operator of a comparison with the constants a and b. All comparing is of
  * whole numbers: a and b may be any signed 64-bit numbers, and are never cut to
@@ -74,9 +121,9 @@ enum cahermisk_operator {
 };
 
 /*
- * The answer of every function but cahermisk_runs_next. On acceptance the number
- * is, for a scan, how many bits of the bitmap are set; for unpack, n; for pack,
- * the length written, in bytes or, for bit planes, in words.
+ * The answer of every function that is lent a place, but of cahermisk_runs_next. On
+ * acceptance the number is, for a scan, how many bits of the bitmap are set; for
+ * unpack, n; for pack, the length written, in bytes or, for bit planes, in words.
  */
 typedef struct {
     uint32_t code;
@@ -86,8 +133,12 @@ typedef struct {
 /*
  * Bytes that a scan of n entries writes. Bit i of a bitmap is bit i mod 8,
  * lowest first, of byte i div 8.
+ * This macro and those of the layouts, which say how long a page is or may be, have
+ * a function each, for callers that have no macros: it gives the same number, but 0
+ * for a width or a count beyond the limits, where every call refuses.
  */
 #define CAHERMISK_BITMAP_BYTES(n) (((size_t)(n) + 7) / 8)
+size_t cahermisk_bitmap_bytes(size_t n);
 
 /* ---- Bare horizontal pages --------------------------------------------- */
 /*
@@ -100,6 +151,7 @@ typedef struct {
  * within the limits.
  */
 #define CAHERMISK_HORIZONTAL_BYTES(width, n) (((size_t)(n) * (size_t)(width) + 7) / 8)
+size_t cahermisk_horizontal_bytes(uint32_t width, size_t n);
 
 /*
  * Compares each entry of a page, and sets bit i of the bitmap exactly if entry i
@@ -162,6 +214,7 @@ cahermisk_answer cahermisk_horizontal_pack(const uint32_t *entries, size_t entri
  * within the limits.
  */
 #define CAHERMISK_VERTICAL_WORDS(width, n) (((size_t)(n) + 63) / 64 * (size_t)(width))
+size_t cahermisk_vertical_words(uint32_t width, size_t n);
 
 /*
  * Compares each entry of the planes, and sets bit i of the bitmap exactly if
@@ -306,6 +359,7 @@ cahermisk_run cahermisk_runs_next(const uint8_t *page, size_t page_len,
  * limits: how many pack writes depends on the entries.
  */
 #define CAHERMISK_RUNS_BYTES(width, n) (((size_t)(n) + 7) / 8 * ((size_t)(width) + 1))
+size_t cahermisk_runs_bytes(uint32_t width, size_t n);
 
 /*
  * Packs all entries_len entries: writes their stream to the first bytes of the
@@ -392,6 +446,7 @@ cahermisk_answer cahermisk_delta_unpack(const uint8_t *page, size_t page_len, si
  * many pack writes depends on the entries.
  */
 #define CAHERMISK_DELTA_BYTES(n) (11 + ((size_t)(n) + 126) / 128 * 521)
+size_t cahermisk_delta_bytes(size_t n);
 
 /*
  * Packs all entries_len entries: writes their page to the first bytes of the page

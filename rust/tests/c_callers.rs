@@ -1,41 +1,15 @@
-//! What a caller in C or C++ is given: the header by itself, the example of README.md, and one run as a struct.
+//! What a caller in C or C++ is given: the header by itself, the example of README.md, one run as a struct, and what
+//! programs over the library show.
 
 use std::fs;
-use std::path::{Path, PathBuf};
-use std::process::{Command, Output};
+use std::path::Path;
+use std::process::Command;
 
+use c_programs::{printed_by, room, run, top, NEEDS_CC};
+
+mod c_programs;
 mod code_table;
 
-/// The top of the repository.
-fn top() -> PathBuf {
-    Path::new(env!("CARGO_MANIFEST_DIR")).join("..")
-}
-
-/// A new folder to compile in.
-fn room(name: &str) -> PathBuf {
-    let room = Path::new(env!("CARGO_TARGET_TMPDIR")).join(name);
-    if room.exists() {
-        fs::remove_dir_all(&room).expect("the folder of an earlier run can be removed");
-    }
-    fs::create_dir_all(&room).expect("a folder can be made");
-    room
-}
-
-/// Runs a command and gives what it wrote; the test fails with what it said unless it ends well.
-fn run(command: &mut Command, needs: &str) -> Output {
-    let output = command
-        .output()
-        .unwrap_or_else(|error| panic!("{needs}: {error}"));
-    assert!(
-        output.status.success(),
-        "{needs}: {command:?} ended with {}\n{}",
-        output.status,
-        String::from_utf8_lossy(&output.stderr)
-    );
-    output
-}
-
-const NEEDS_CC: &str = "this test needs a C compiler, cc, on PATH";
 const NEEDS_CXX: &str = "this test needs a C++ compiler, c++, on PATH";
 
 /// The header's names with document 01's numbers, but for the codes, which data/codes.txt has.
@@ -125,6 +99,13 @@ int all_ends_well(void) {
     cahermisk_answer compared = cahermisk_dictionary_scan(values, sizeof values,
         indexes, sizeof indexes, 8, CAHERMISK_LESS, -1, 0, bitmap, sizeof bitmap);
     return packed.code == CAHERMISK_ACCEPTED && unpacked.number == 8
+        && cahermisk_version() == CAHERMISK_VERSION && sizeof CAHERMISK_VERSION_TEXT > 5
+        && *cahermisk_code_text(packed.code) == 'a'
+        && cahermisk_bitmap_bytes(8) == sizeof bitmap
+        && cahermisk_horizontal_bytes(3, 8) == sizeof page
+        && cahermisk_vertical_words(3, 8) == 3
+        && cahermisk_runs_bytes(3, 8) == sizeof stream
+        && cahermisk_delta_bytes(8) == sizeof steps
         && scanned.code != CAHERMISK_VALUE_TOO_LARGE
         && planes.number == 3 && read.number == 8 && found.code == CAHERMISK_ACCEPTED
         && laid.number == 8 && marked.code != CAHERMISK_RUN_PAST_N
@@ -228,30 +209,8 @@ int main(void) {
 
 #[test]
 fn a_run_is_a_struct_by_value() {
-    let room = room("run_by_run");
-    let source = room.join("run_by_run.c");
-    let program = room.join("run_by_run");
-    fs::write(&source, RUN_BY_RUN).expect("a source file can be written");
-    run(
-        Command::new("cc")
-            .args([
-                "-std=c99",
-                "-Wall",
-                "-Wextra",
-                "-Wpedantic",
-                "-Werror",
-                "-I",
-            ])
-            .arg(top().join("include"))
-            .arg(&source)
-            .arg(env!("CAHERMISK_ARCHIVE"))
-            .arg("-o")
-            .arg(&program),
-        NEEDS_CC,
-    );
-    let output = run(&mut Command::new(&program), "the program just compiled");
-    let printed = "0 0 3 4 2 0 0\n0 1 8 0 6 3 3\n11 0 0 0 0 0 0\n";
-    assert_eq!(String::from_utf8_lossy(&output.stdout), printed);
+    let printed = printed_by("run_by_run", RUN_BY_RUN);
+    assert_eq!(printed, "0 0 3 4 2 0 0\n0 1 8 0 6 3 3\n11 0 0 0 0 0 0\n");
 }
 
 /// A field of cahermisk.pc, with its variables put in, as words for a compiler.

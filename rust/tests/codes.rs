@@ -49,6 +49,31 @@ fn the_header_names_each_code() {
     hold("include/cahermisk.h", &said, &rows);
 }
 
+/// The name and the words of a case of the header's function.
+fn in_function(case: &str) -> Option<[&str; 2]> {
+    let (name, rest) = case.split_once(':')?;
+    Some([name, between(rest, "return \"", "\";")?])
+}
+
+#[test]
+fn the_header_has_the_words_of_each_code() {
+    let cases = between(HEADER, "switch (code) {", "\n}");
+    let (cases, default) = cases
+        .and_then(|cases| cases.split_once("default:"))
+        .expect("the cases of codes, and what is said of others");
+    let said: Vec<_> = cases
+        .split("case CAHERMISK_")
+        .filter_map(in_function)
+        .collect();
+    let told = |[_, name, _, words, _]: [&'static str; 5]| match words {
+        NONE => [name, "accepted"],
+        _ => [name, words],
+    };
+    let rows: Vec<_> = rows().into_iter().map(told).collect();
+    hold("cahermisk_code_text", &said, &rows);
+    assert!(default.contains("\"a code that this header does not know\""));
+}
+
 #[test]
 fn the_readme_tells_what_each_refusal_means() {
     let section = between(README, "\n## Codes\n", "\n## ").expect("the section of codes");

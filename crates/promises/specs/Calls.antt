@@ -37,6 +37,16 @@ use Rattle.cahermisk.proofs.dictionary.cahermisk_dictionary_scan.Kinds as dicti
 use Rattle.cahermisk.proofs.dictionary.cahermisk_dictionary_scan.Reads as dictionary-scan·reads
 use Rattle.cahermisk.proofs.dictionary.cahermisk_dictionary_unpack.Kinds as dictionary-unpack·kinds
 use Rattle.cahermisk.proofs.dictionary.cahermisk_dictionary_unpack.Reads as dictionary-unpack·reads
+use Rattle.cahermisk.proofs.rooms.cahermisk_bitmap_bytes.Kinds as bitmap-bytes·kinds
+use Rattle.cahermisk.proofs.rooms.cahermisk_bitmap_bytes.Reads as bitmap-bytes·reads
+use Rattle.cahermisk.proofs.rooms.cahermisk_horizontal_bytes.Kinds as horizontal-bytes·kinds
+use Rattle.cahermisk.proofs.rooms.cahermisk_horizontal_bytes.Reads as horizontal-bytes·reads
+use Rattle.cahermisk.proofs.rooms.cahermisk_vertical_words.Kinds as vertical-words·kinds
+use Rattle.cahermisk.proofs.rooms.cahermisk_vertical_words.Reads as vertical-words·reads
+use Rattle.cahermisk.proofs.rooms.cahermisk_runs_bytes.Kinds as runs-bytes·kinds
+use Rattle.cahermisk.proofs.rooms.cahermisk_runs_bytes.Reads as runs-bytes·reads
+use Rattle.cahermisk.proofs.rooms.cahermisk_delta_bytes.Kinds as delta-bytes·kinds
+use Rattle.cahermisk.proofs.rooms.cahermisk_delta_bytes.Reads as delta-bytes·reads
 
 -- whatever a call was given, gave back and left, of which its caller learns the one, the other holds
 abbrev pub Every : (k : ℕ) (ps : List (PK k)) (res : RK k) → Out k ps res → Out k ps res → Type 0
@@ -93,6 +103,21 @@ EveryDictionaryScan = Every 3 dictionary-scan·kinds.ps dictionary-scan·kinds.r
 abbrev pub EveryDictionaryUnpack : Out 3 dictionary-unpack·kinds.ps dictionary-unpack·kinds.r → Type 0
 EveryDictionaryUnpack = Every 3 dictionary-unpack·kinds.ps dictionary-unpack·kinds.r dictionary-unpack·reads.Learnt
 
+abbrev pub EveryBitmapBytes : Out 0 bitmap-bytes·kinds.ps bitmap-bytes·kinds.r → Type 0
+EveryBitmapBytes = Every 0 bitmap-bytes·kinds.ps bitmap-bytes·kinds.r bitmap-bytes·reads.Learnt
+
+abbrev pub EveryHorizontalBytes : Out 0 horizontal-bytes·kinds.ps horizontal-bytes·kinds.r → Type 0
+EveryHorizontalBytes = Every 0 horizontal-bytes·kinds.ps horizontal-bytes·kinds.r horizontal-bytes·reads.Learnt
+
+abbrev pub EveryVerticalWords : Out 0 vertical-words·kinds.ps vertical-words·kinds.r → Type 0
+EveryVerticalWords = Every 0 vertical-words·kinds.ps vertical-words·kinds.r vertical-words·reads.Learnt
+
+abbrev pub EveryRunsBytes : Out 0 runs-bytes·kinds.ps runs-bytes·kinds.r → Type 0
+EveryRunsBytes = Every 0 runs-bytes·kinds.ps runs-bytes·kinds.r runs-bytes·reads.Learnt
+
+abbrev pub EveryDeltaBytes : Out 0 delta-bytes·kinds.ps delta-bytes·kinds.r → Type 0
+EveryDeltaBytes = Every 0 delta-bytes·kinds.ps delta-bytes·kinds.r delta-bytes·reads.Learnt
+
 -- ---- the caller need check nothing first
 
 pub horizontal-scan-asks-nothing : AsksNothing 2 horizontal-scan·kinds.ps horizontal-scan·reads.Asked
@@ -139,3 +164,18 @@ dictionary-scan-asks-nothing κs a = refl
 
 pub dictionary-unpack-asks-nothing : AsksNothing 3 dictionary-unpack·kinds.ps dictionary-unpack·reads.Asked
 dictionary-unpack-asks-nothing κs a = refl
+
+pub bitmap-bytes-asks-nothing : AsksNothing 0 bitmap-bytes·kinds.ps bitmap-bytes·reads.Asked
+bitmap-bytes-asks-nothing κs a = refl
+
+pub horizontal-bytes-asks-nothing : AsksNothing 0 horizontal-bytes·kinds.ps horizontal-bytes·reads.Asked
+horizontal-bytes-asks-nothing κs a = refl
+
+pub vertical-words-asks-nothing : AsksNothing 0 vertical-words·kinds.ps vertical-words·reads.Asked
+vertical-words-asks-nothing κs a = refl
+
+pub runs-bytes-asks-nothing : AsksNothing 0 runs-bytes·kinds.ps runs-bytes·reads.Asked
+runs-bytes-asks-nothing κs a = refl
+
+pub delta-bytes-asks-nothing : AsksNothing 0 delta-bytes·kinds.ps delta-bytes·reads.Asked
+delta-bytes-asks-nothing κs a = refl

@@ -1,11 +1,9 @@
 -- Delta pages are a layout of signed entries of W bits with a writer, and their three contracts are its. What the
--- writer writes is read back, and there is a room that always suffices for it.
+-- writer writes is read back.
 use mathlib.Core.Path.{_≡_, refl}
 use mathlib.Core.List.{List}
 use mathlib.Core.Logic.{Iff·rfl}
-use Prim.Native.Nat.{ℕ, _+_, _*_, _/_, _<_, _≤_}
-use native.Mathlib.Nat.{le-trans}
-use native.Mathlib.Omega.{arith}
+use Prim.Native.Nat.{ℕ, _<_}
 use lib.IntN.{ℤ, pos}
 use lib.ListN.{length, take, getD}
 use Rattle.rules.specs.Bits.{ceil}
@@ -16,10 +14,9 @@ use Rattle.rules.specs.Delta as Delta
 use Rattle.rules.specs.DeltaWriter as DeltaWriter
 use Rattle.rules.specs.declared.Answer.{Answer}
 use Rattle.delta_write.specs.Deltas.{AllWithin, no-wide-fault}
-use Rattle.delta_write.specs.Sizes.{page-enough}
 use Rattle.delta_write.specs.ReadBack.{fault-back, entries-back}
 use Rattle.promises.specs.Layouts.{Layout}
-use Rattle.promises.specs.Writers.{Writer, pack-accepted, packed-scans}
+use Rattle.promises.specs.Writers.{Writer, packed-scans}
 use Rattle.promises.specs.Signed.{signed}
 
 -- a page is good where a reader finds no fault: a grammar of delta pages, apart from the reader, is a later request
@@ -57,13 +54,3 @@ module _ (W : ℕ) (some : 0 < W) (entries : List ℤ) (before : List ℕ) {page
     unfolding Delta.scan DeltaWriter.pack
     written-scans op a b bitmap =
         packed-scans (delta W) (writer W some) entries tt before contract ok held op a b (pos 0) bitmap
-
--- CAHERMISK_DELTA_BYTES (include/cahermisk.h) is room for every list of 32-bit entries
-pub room-suffices : (entries : List ℤ) (before : List ℕ) {page : List ℕ} {r : Answer}
-    → outcome r page ≡ DeltaWriter.pack 32 entries before
-    → AllWithin 32 entries → length entries ≤ 16384 → 11 + (length entries + 126) / 128 * 521 ≤ length before
-    → r .code ≡ 0
-unfolding DeltaWriter.pack
-room-suffices entries before contract held few room =
-    pack-accepted (delta 32) (writer 32 (omega arith)) entries tt before contract .1
-    (few, (tt, le-trans (page-enough 32 (omega arith) entries few (held 0)) room))

@@ -27,6 +27,7 @@ pub mod Conditions
 pub mod Keeping
 pub mod Calls
 pub mod Exported
+pub mod Rooms
 pub mod ThereAndBack
 pub mod Handing
 pub mod Codes

@@ -1,16 +1,15 @@
 -- Run streams are a layout, and their three contracts are its. The third condition: a stream is accepted exactly if
 -- its bytes can be cut into runs by the published grammar, none can be cut in two ways, and what is given is that
--- of the entries so cut. What the writer writes is read back, and there is a room that always suffices for it.
+-- of the entries so cut. What the writer writes is read back.
 use mathlib.Core.Path.{_≡_, refl, subst}
 use mathlib.Core.List.{List}
 use mathlib.Core.Logic.{_↔_}
-use Prim.Native.Nat.{ℕ, _+_, _*_, _/_, _≤_}
-use native.Mathlib.Nat.{le-trans}
+use Prim.Native.Nat.{ℕ, _≤_}
 use lib.IntN.{ℤ, pos}
 use lib.ListN.{length, take, getD}
 use Rattle.rules.specs.Bits.{ceil}
 use Rattle.rules.specs.Comparison.{holds}
-use Rattle.rules.specs.Answer.{_then_, operatorFault, roomFault, accepted, scanned}
+use Rattle.rules.specs.Answer.{_then_, operatorFault, roomFault, scanned}
 use Rattle.rules.specs.Answer.Outcome.{outcome}
 use Rattle.rules.specs.Runs as Runs
 use Rattle.rules.specs.Runs.{Stream, read, streamFault, streamEntry}
@@ -18,14 +17,12 @@ use Rattle.rules.specs.RunWriter as RunWriter
 use Rattle.rules.specs.RunWriter.{stream}
 use Rattle.rules.specs.Grammar.{Piece, cutEntries, Cut}
 use Rattle.rules.specs.declared.Answer.{Answer}
-use Rattle.words.specs.Joined.{Small}
 use Rattle.runs_read.specs.Exact as Exact
-use Rattle.runs_write.specs.Sizes.{stream-enough}
 use Rattle.runs_write.specs.ReadBack.{stream-back, entries-back}
 use Rattle.promises.specs.NoFault.{_and_}
 use Rattle.promises.specs.Layouts as Layouts
 use Rattle.promises.specs.Layouts.{Layout}
-use Rattle.promises.specs.Writers.{Writer, pack-accepted, packed-scans}
+use Rattle.promises.specs.Writers.{Writer, packed-scans}
 use Rattle.promises.specs.Unsigned.{unsigned, unsigned-writer}
 use Rattle.promises.specs.Scans.{Selects}
 use Rattle.promises.specs.Writes.{Fills}
@@ -97,13 +94,3 @@ module _ (entries : List ℕ) (w : ℕ) (before : List ℕ) {page : List ℕ} {r
       (λ i. holds op a b (pos (getD entries i 0))) bitmap
   unfolding Runs.scan RunWriter.pack
   written-scans op a b bitmap = packed-scans runs writer entries w before contract ok tt op a b 0 bitmap
-
--- CAHERMISK_RUNS_BYTES (include/cahermisk.h) is room for every list that fits
-pub room-suffices : (entries : List ℕ) (w : ℕ) (before : List ℕ) {page : List ℕ} {r : Answer}
-    → outcome r page ≡ RunWriter.pack entries w before
-    → w ≤ 32 → length entries ≤ 16384 → Small w entries → (length entries + 7) / 8 * (w + 1) ≤ length before
-    → r .code ≡ 0
-unfolding RunWriter.pack
-room-suffices entries w before contract narrow few small room =
-    pack-accepted runs writer entries w before contract .1
-    ((narrow, few), (small, le-trans (stream-enough w entries few) room))

@@ -1,7 +1,7 @@
 //! The writer: pages as document 01 has them, and read back.
 
 use super::pages::{entries, COUNTS};
-use crate::raw::{cahermisk_delta_pack, Answer};
+use crate::raw::{cahermisk_delta_bytes, cahermisk_delta_pack, Answer};
 use crate::reader::delta::{page_of, Pack};
 use crate::signed::comparisons::LARGE_COUNTS;
 use crate::support::calls::Calls;
@@ -9,7 +9,7 @@ use crate::support::fenced::{Edge, Fenced};
 use crate::support::lent::FILLINGS;
 use crate::support::random::Random;
 
-/// Packs a list into room that is just enough, and unpacks it. What the header calls enough is enough.
+/// Packs a list into room that is just enough, and unpacks it. What the library calls enough is enough.
 fn there_and_back(calls: &mut Calls, list: &[i32]) -> Vec<u8> {
     let filling = calls.random.pick(&FILLINGS);
     let packed = calls.pack_delta(&Pack {
@@ -19,7 +19,8 @@ fn there_and_back(calls: &mut Calls, list: &[i32]) -> Vec<u8> {
     assert_eq!(packed.code, 0);
     let page = packed.held;
     assert_eq!(calls.entries_of_delta(&page, list.len()), list);
-    assert!(page.len() <= 11 + list.len().saturating_sub(1).div_ceil(128) * 521);
+    // SAFETY: nothing is lent.
+    assert!(page.len() <= unsafe { cahermisk_delta_bytes(list.len()) });
     page
 }
 

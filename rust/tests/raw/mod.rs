@@ -139,3 +139,12 @@ extern "C" {
         entries_len: usize,
     ) -> Answer;
 }
+
+// How many places to lend.
+extern "C" {
+    pub fn cahermisk_bitmap_bytes(n: usize) -> usize;
+    pub fn cahermisk_horizontal_bytes(width: u32, n: usize) -> usize;
+    pub fn cahermisk_vertical_words(width: u32, n: usize) -> usize;
+    pub fn cahermisk_runs_bytes(width: u32, n: usize) -> usize;
+    pub fn cahermisk_delta_bytes(n: usize) -> usize;
+}

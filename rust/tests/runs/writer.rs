@@ -1,6 +1,7 @@
 //! The writer's own cuts: where runs begin and close, and how long their headers are.
 
 use crate::layouts::pages::{entries, greatest, KINDS};
+use crate::raw::cahermisk_runs_bytes;
 use crate::reader::calls::{Pack, Rules, Unpack};
 use crate::reader::runs::Runs;
 use crate::support::calls::Calls;
@@ -89,7 +90,7 @@ fn headers_are_shortest() {
     calls.finish();
 }
 
-/// What the header calls enough is enough: a byte and the group's bytes for each eight entries.
+/// What the library calls enough is enough.
 #[test]
 fn streams_are_no_longer_than_the_header_says() {
     let mut calls = Calls::of::<Runs>("packs of every kind");
@@ -98,7 +99,8 @@ fn streams_are_no_longer_than_the_header_says() {
             for kind in KINDS {
                 let list = entries(kind, width, n, &mut calls.random);
                 let page = there_and_back(&mut calls, &list, width);
-                assert!(page.len() <= n.div_ceil(8) * (width as usize + 1));
+                // SAFETY: nothing is lent.
+                assert!(page.len() <= unsafe { cahermisk_runs_bytes(width, n) });
             }
         }
     }

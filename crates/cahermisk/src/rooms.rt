@@ -1,0 +1,56 @@
+// How many places to lend, for callers that cannot use the header's macros.
+ghost use mathlib.Core.Path.{_≡_};
+ghost use Rattle.cahermisk.specs.Rooms.{bitmapBytes, deltaBytes, horizontalBytes, runsBytes, verticalWords};
+use limits::signed_fault;
+use limits::unsigned_fault;
+
+// Signed columns have no other limit than the count of every column.
+#[no_mangle]
+pub extern "C" fn cahermisk_bitmap_bytes(n: usize) -> usize
+    ensures { λ r. ⌜ r ≡ bitmapBytes n ⌝ }
+{
+    if signed_fault(n) != 0 {
+        return 0;
+    }
+    (n + 7) / 8
+}
+
+#[no_mangle]
+pub extern "C" fn cahermisk_horizontal_bytes(width: u32, n: usize) -> usize
+    ensures { λ r. ⌜ r ≡ horizontalBytes width n ⌝ }
+{
+    if unsigned_fault(width, n) != 0 {
+        return 0;
+    }
+    (n * width as usize + 7) / 8
+}
+
+#[no_mangle]
+pub extern "C" fn cahermisk_vertical_words(width: u32, n: usize) -> usize
+    ensures { λ r. ⌜ r ≡ verticalWords width n ⌝ }
+{
+    if unsigned_fault(width, n) != 0 {
+        return 0;
+    }
+    (n + 63) / 64 * width as usize
+}
+
+#[no_mangle]
+pub extern "C" fn cahermisk_runs_bytes(width: u32, n: usize) -> usize
+    ensures { λ r. ⌜ r ≡ runsBytes width n ⌝ }
+{
+    if unsigned_fault(width, n) != 0 {
+        return 0;
+    }
+    (n + 7) / 8 * (width as usize + 1)
+}
+
+#[no_mangle]
+pub extern "C" fn cahermisk_delta_bytes(n: usize) -> usize
+    ensures { λ r. ⌜ r ≡ deltaBytes n ⌝ }
+{
+    if signed_fault(n) != 0 {
+        return 0;
+    }
+    11 + (n + 126) / 128 * 521
+}
