@@ -1,41 +1,13 @@
 //! What a caller in C or C++ is given: the header by itself, the example of README.md, and one run as a struct.
 
 use std::fs;
-use std::path::{Path, PathBuf};
-use std::process::{Command, Output};
+use std::process::Command;
+
+use commands::{room, run, top, NEEDS_CC};
 
 mod code_table;
+mod commands;
 
-/// The top of the repository.
-fn top() -> PathBuf {
-    Path::new(env!("CARGO_MANIFEST_DIR")).join("..")
-}
-
-/// A new folder to compile in.
-fn room(name: &str) -> PathBuf {
-    let room = Path::new(env!("CARGO_TARGET_TMPDIR")).join(name);
-    if room.exists() {
-        fs::remove_dir_all(&room).expect("the folder of an earlier run can be removed");
-    }
-    fs::create_dir_all(&room).expect("a folder can be made");
-    room
-}
-
-/// Runs a command and gives what it wrote; the test fails with what it said unless it ends well.
-fn run(command: &mut Command, needs: &str) -> Output {
-    let output = command
-        .output()
-        .unwrap_or_else(|error| panic!("{needs}: {error}"));
-    assert!(
-        output.status.success(),
-        "{needs}: {command:?} ended with {}\n{}",
-        output.status,
-        String::from_utf8_lossy(&output.stderr)
-    );
-    output
-}
-
-const NEEDS_CC: &str = "this test needs a C compiler, cc, on PATH";
 const NEEDS_CXX: &str = "this test needs a C++ compiler, c++, on PATH";
 
 /// The header's names with document 01's numbers, but for the codes, which data/codes.txt has.
@@ -252,50 +224,4 @@ fn a_run_is_a_struct_by_value() {
     let output = run(&mut Command::new(&program), "the program just compiled");
     let printed = "0 0 3 4 2 0 0\n0 1 8 0 6 3 3\n11 0 0 0 0 0 0\n";
     assert_eq!(String::from_utf8_lossy(&output.stdout), printed);
-}
-
-/// A field of cahermisk.pc, with its variables put in, as words for a compiler.
-fn pc_words(pc: &str, field: &str, prefix: &str) -> Vec<String> {
-    let line = pc.lines().find_map(|line| line.strip_prefix(field));
-    let line = line.unwrap_or_else(|| panic!("cahermisk.pc has no {field}"));
-    let line = line.replace("${includedir}", &format!("{prefix}/include"));
-    let line = line.replace("${libdir}", &format!("{prefix}/lib"));
-    line.split_whitespace().map(str::to_owned).collect()
-}
-
-#[test]
-fn an_installed_library_is_found_by_its_pc_file() {
-    let room = room("installed");
-    let prefix = room
-        .to_str()
-        .expect("the folder's name is plain")
-        .to_owned();
-    let archive = Path::new(env!("CAHERMISK_ARCHIVE")).parent();
-    run(
-        Command::new(top().join("tools/install")).arg(&prefix).env(
-            "CAHERMISK_LIB_DIR",
-            archive.expect("the archive has a folder"),
-        ),
-        "tools/install",
-    );
-    let pc = fs::read_to_string(room.join("lib/pkgconfig/cahermisk.pc"));
-    let pc = pc.expect("cahermisk.pc is installed");
-    assert!(
-        pc.starts_with(&format!("prefix={prefix}\n")) && !pc.contains('@'),
-        "{pc}"
-    );
-
-    let source = room.join("run_by_run.c");
-    let program = room.join("run_by_run");
-    fs::write(&source, RUN_BY_RUN).expect("a source file can be written");
-    run(
-        Command::new("cc")
-            .args(pc_words(&pc, "Cflags:", &prefix))
-            .arg(&source)
-            .arg("-o")
-            .arg(&program)
-            .args(pc_words(&pc, "Libs:", &prefix)),
-        NEEDS_CC,
-    );
-    run(&mut Command::new(&program), "the program just linked");
 }
