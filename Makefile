@@ -1,6 +1,6 @@
 # What can be made here. `make` alone lists it.
 
-.PHONY: help run test lib install uninstall bench stress figures clean
+.PHONY: help run test lib install uninstall bench stress figures clean need-rt need-target
 .NOTPARALLEL:
 
 # Cargo builds below target/ too, over the library just made.
@@ -10,8 +10,8 @@ help:
 	@echo 'make run     prove the program scan and what it stands on, and scan the sample day'
 	@echo 'make test    the gate: prove everything from nothing, then test the library just proved'
 	@echo 'make lib     prove the library and build it into target/staticlib, unless nothing has changed'
-	@echo 'make install copies what make lib and make run built below PREFIX (/usr/local): the library, its header,'
-	@echo '             cahermisk.pc, the program scan (x86-64) and its man page; make uninstall removes them'
+	@echo 'make install copy what make lib and make run built below PREFIX (/usr/local): the library, its header,'
+	@echo '             cahermisk.pc, the man page of scan and, on x86-64, scan; make uninstall removes them'
 	@echo 'make bench   the library, then its speed beside Rust loops for the same job, drawn in target/speed.svg'
 	@echo 'make stress  the library, then random and damaged pages for CAHERMISK_STRESS_SECONDS (120), beside the second reader'
 	@echo 'make figures what the last `make test` saw, into docs/FIGURES.md and the end of docs/SHAMS.md; and wrong definitions'

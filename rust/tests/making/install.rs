@@ -1,85 +1,14 @@
-//! `make install` and `make uninstall`: which files, what cahermisk.pc says, how the installed scan ends.
+//! `make install` and `make uninstall`: which files, what cahermisk.pc says, and what is refused.
 
 use std::fs;
-use std::os::unix::fs::{symlink, PermissionsExt};
+use std::os::unix::fs::symlink;
 use std::path::{Path, PathBuf};
-use std::process::{Command, Output};
+use std::process::Command;
 
-use commands::{room, run, top, NEEDS_CC};
+use crate::commands::{run, NEEDS_CC};
+use crate::repository::{folder, library, make_of, repository, with_program, write, NEEDS_MAKE};
 
-mod commands;
-
-const NEEDS_MAKE: &str = "this test needs make on PATH";
-const NEEDS_SH: &str = "this test needs a shell, sh, on PATH";
 const VERSION: &str = env!("CARGO_PKG_VERSION");
-
-fn write(path: PathBuf, text: &str, mode: u32) {
-    fs::write(&path, text).expect("a file can be written");
-    fs::set_permissions(&path, fs::Permissions::from_mode(mode)).expect("its mode can be set");
-}
-
-fn folder(path: PathBuf) -> PathBuf {
-    fs::create_dir_all(&path).expect("a folder can be made");
-    path
-}
-
-/// A folder like the top of the repository, on a machine of a kind. `rt` is there, and does not work.
-fn repository(name: &str, machine: &str) -> PathBuf {
-    let room = room(name);
-    for part in ["Makefile", "tools", "include", "docs", "rust"] {
-        let link = symlink(top().join(part), room.join(part));
-        link.unwrap_or_else(|error| panic!("{part}: {error}"));
-    }
-    let path = folder(room.join("path"));
-    write(
-        path.join("uname"),
-        &format!("#!/bin/sh\necho {machine}\n"),
-        0o755,
-    );
-    write(path.join("rt"), "#!/bin/sh\nexit 1\n", 0o755);
-    room
-}
-
-/// What stands in for the program: it asks for its first word, and does what the second one says.
-const PROGRAM: &str = "\
-#!/bin/sh
-[ \"$1\" = --status-fd=3 ] || exit 9
-shift
-case $1 in
-told) echo answer; echo sentence >&2; printf 11 >&3 ;;
-ended) kill -PIPE $$ ;;
-read) cat ;;
-*) printf '<%s>' \"$@\" ;;
-esac
-exit 0
-";
-
-fn with_program(repository: &Path) {
-    let bin = folder(repository.join("target/bin"));
-    write(bin.join("scan"), PROGRAM, 0o755);
-}
-
-/// The folder of the library that the tests link.
-fn library() -> &'static Path {
-    let folder = Path::new(env!("CAHERMISK_ARCHIVE")).parent();
-    folder.expect("the archive has a folder")
-}
-
-/// `make` in a folder like the repository, over the library in another.
-fn make(repository: &Path, library: &Path, words: &[&str]) -> Command {
-    let path = std::env::var("PATH").expect("PATH is set");
-    let path = format!("{}:{path}", repository.join("path").display());
-    let mut command = Command::new("make");
-    command
-        .args(["-s", "-C"])
-        .arg(repository)
-        .args(words)
-        .env("PATH", path)
-        .env("CAHERMISK_LIB_DIR", library)
-        .env_remove("MAKEFLAGS")
-        .env_remove("DESTDIR");
-    command
-}
 
 /// All files below a folder, by their places in it.
 fn files(folder: &Path) -> Vec<String> {
@@ -120,6 +49,40 @@ fn soname() -> String {
     format!("libcahermisk.so.{compatible}")
 }
 
+const FOLDERS: [&str; 6] = [
+    "PREFIX=/opt/c",
+    "BINDIR=/b",
+    "LIBDIR=/l/64",
+    "LIBEXECDIR=/x",
+    "INCLUDEDIR=/i",
+    "MANDIR=/m",
+];
+
+/// What is installed into those folders, the older shared object that was there before among it.
+fn installed() -> Vec<String> {
+    let mut files = vec![
+        format!("l/64/libcahermisk.so.{VERSION}"),
+        format!("l/64/{}", soname()),
+    ];
+    files.extend(
+        [
+            OLDER,
+            "b/scan",
+            "i/cahermisk.h",
+            "l/64/libcahermisk.a",
+            "l/64/libcahermisk.so",
+            "l/64/pkgconfig/cahermisk.pc",
+            "m/man1/scan.1",
+            "x/cahermisk/scan",
+        ]
+        .map(str::to_owned),
+    );
+    files.sort();
+    files
+}
+
+const OLDER: &str = "l/64/libcahermisk.so.0.0";
+
 #[test]
 fn what_is_installed_is_removed_and_nothing_else() {
     let room = repository("install_files", "x86_64");
@@ -127,43 +90,18 @@ fn what_is_installed_is_removed_and_nothing_else() {
     let lib = named_library(&room);
     let stage = room.join("stage");
     let destdir = format!("DESTDIR={}", stage.display());
-    let words = [
-        "PREFIX=/opt/c",
-        "BINDIR=/b",
-        "LIBDIR=/l/64",
-        "LIBEXECDIR=/x",
-        "INCLUDEDIR=/i",
-        "MANDIR=/m",
-        &destdir,
-    ];
-    let others = folder(stage.join("l/64")).join("libcahermisk.so.0.0");
-    write(others, "an older one, for programs that need it", 0o644);
-    run(
-        &mut make(&room, &lib, &[&["install"], &words[..]].concat()),
-        NEEDS_MAKE,
-    );
-    let mut expected = [
-        "b/scan",
-        "i/cahermisk.h",
-        "l/64/libcahermisk.a",
-        "l/64/libcahermisk.so",
-        "l/64/libcahermisk.so.0.0",
-        &format!("l/64/{}", soname()),
-        &format!("l/64/libcahermisk.so.{VERSION}"),
-        "l/64/pkgconfig/cahermisk.pc",
-        "m/man1/scan.1",
-        "x/cahermisk/scan",
-    ];
-    expected.sort_unstable();
-    assert_eq!(files(&stage), expected);
+    folder(stage.join("l/64"));
+    write(stage.join(OLDER), "for programs that need it", 0o644);
+    let make = |goal: &str| {
+        let mut command = make_of(&room, &lib, &[goal, &destdir]);
+        run(command.args(FOLDERS), NEEDS_MAKE);
+    };
+    make("install");
+    assert_eq!(files(&stage), installed());
     let is_link = |name: &str| stage.join("l/64").join(name).is_symlink();
     assert!(is_link("libcahermisk.so") && is_link(&soname()));
-
-    run(
-        &mut make(&room, &lib, &[&["uninstall"], &words[..]].concat()),
-        NEEDS_MAKE,
-    );
-    assert_eq!(files(&stage), ["l/64/libcahermisk.so.0.0"]);
+    make("uninstall");
+    assert_eq!(files(&stage), [OLDER]);
 }
 
 #[test]
@@ -173,7 +111,7 @@ fn a_scan_of_another_is_not_removed() {
     let bin = folder(room.join("at/bin"));
     write(bin.join("scan"), "another program", 0o755);
     run(
-        &mut make(&room, library(), &["uninstall", &prefix]),
+        &mut make_of(&room, library(), &["uninstall", &prefix]),
         NEEDS_MAKE,
     );
     assert_eq!(files(&room.join("at")), ["bin/scan"]);
@@ -194,7 +132,7 @@ fn install_says_why_there_is_no_scan() {
         }
         let prefix = format!("PREFIX={}", room.join("at").display());
         let output = run(
-            &mut make(&room, library(), &["install", &prefix]),
+            &mut make_of(&room, library(), &["install", &prefix]),
             NEEDS_MAKE,
         );
         let said = String::from_utf8_lossy(&output.stdout);
@@ -208,7 +146,7 @@ fn install_says_why_there_is_no_scan() {
 /// Ends with a sentence that has these words, and writes nothing.
 fn refused(repository: &Path, library: &Path, prefix: &str, words: &str) {
     let before = files(repository);
-    let mut command = make(
+    let mut command = make_of(
         repository,
         library,
         &["install", &format!("PREFIX={prefix}")],
@@ -283,7 +221,7 @@ fn an_installed_library_is_found_by_its_pc_file() {
     let prefix = format!("PREFIX={}", at.display());
     let libdir = format!("LIBDIR={}/lib 64", at.display());
     run(
-        &mut make(&room, library(), &["install", &prefix, &libdir]),
+        &mut make_of(&room, library(), &["install", &prefix, &libdir]),
         NEEDS_MAKE,
     );
     let folder = at.join("lib 64/pkgconfig");
@@ -307,60 +245,4 @@ fn an_installed_library_is_found_by_its_pc_file() {
         "the program just linked",
     );
     assert_eq!(String::from_utf8_lossy(&output.stdout), "0 3\n");
-}
-
-/// What a command line prints on both outputs, and its status. `scan` is the installed one.
-fn of_line(prefix: &Path, line: &str) -> (String, String, Option<i32>) {
-    let mut shell = Command::new("sh");
-    shell.args(["-c", line]).env(
-        "PATH",
-        format!("{}:/usr/bin:/bin", prefix.join("bin").display()),
-    );
-    let Output {
-        status,
-        stdout,
-        stderr,
-    } = shell.output().expect(NEEDS_SH);
-    let text = |bytes: Vec<u8>| String::from_utf8(bytes).expect("plain text");
-    (text(stdout), text(stderr), status.code())
-}
-
-#[test]
-fn the_installed_scan_ends_with_1_where_it_told() {
-    let room = repository("install_status", "x86_64");
-    with_program(&room);
-    let at = room.join("at, & here");
-    let prefix = format!("PREFIX={}", at.display());
-    run(
-        &mut make(&room, library(), &["install", &prefix]),
-        NEEDS_MAKE,
-    );
-    for (line, stdout, stderr, status) in [
-        ("scan less 'a b' ''", "<less><a b><>", "", 0),
-        ("scan told", "answer\n", "sentence\n", 1),
-        ("scan told >/dev/null", "", "sentence\n", 1),
-        ("scan told 2>&-", "answer\n", "", 1),
-        ("scan told 2>/dev/null >&-", "", "", 1),
-        ("echo given | scan read", "given\n", "", 0),
-        ("scan read 2>/dev/null <&-", "", "", 0),
-        (
-            "scan less 3>three 4>four; cat three four; rm three four",
-            "<less>",
-            "",
-            0,
-        ),
-        ("scan ended", "", "", 128 + 13),
-    ] {
-        let line = format!("cd '{}' && {line}", room.display());
-        let expected = (stdout.to_owned(), stderr.to_owned(), Some(status));
-        assert_eq!(of_line(&at, &line), expected, "{line}");
-    }
-    // What cannot be started says what it needs.
-    fs::remove_file(at.join("libexec/cahermisk/scan")).expect("the program is there");
-    let (_, stderr, status) = of_line(&at, "scan less");
-    assert!(
-        stderr.ends_with("it needs x86-64 Linux with glibc 2.34 or newer\n"),
-        "{stderr}"
-    );
-    assert_eq!(status, Some(127));
 }
