@@ -162,11 +162,20 @@ fn refused(repository: &Path, library: &Path, prefix: &str, words: &str) {
 }
 
 #[test]
-fn a_library_that_is_not_built_is_not_installed() {
+fn a_library_that_is_not_built_or_of_another_version_is_not_installed() {
     let room = repository("install_unbuilt", "x86_64");
     let empty = folder(room.join("empty"));
     let prefix = room.join("at").display().to_string();
     refused(&room, &empty, &prefix, "run make lib first");
+
+    let lib = named_library(&room);
+    let shared = lib.join(format!("libcahermisk.so.{VERSION}"));
+    let older = lib.join("libcahermisk.so.0.0.0");
+    fs::rename(shared, older).expect("it is there");
+    let link = lib.join("libcahermisk.so");
+    fs::remove_file(&link).expect("it is there");
+    symlink("libcahermisk.so.0.0.0", link).expect("a link can be made");
+    refused(&room, &lib, &prefix, "is not of version");
 }
 
 #[test]
