@@ -1,6 +1,6 @@
 # What can be made here. `make` alone lists it.
 
-.PHONY: help run test lib install bench stress figures clean
+.PHONY: help run test lib install uninstall bench stress figures clean need-rt need-target
 .NOTPARALLEL:
 
 # Cargo builds below target/ too, over the library just made.
@@ -9,33 +9,39 @@ CARGO = CAHERMISK_LIB_DIR=$(CURDIR)/target/staticlib CARGO_TARGET_DIR=$(CURDIR)/
 help:
 	@echo 'make run     prove the program scan and what it stands on, and scan the sample day'
 	@echo 'make test    the gate: prove everything from nothing, then test the library just proved'
-	@echo 'make lib     prove the library and write target/staticlib/libcahermisk.a'
-	@echo 'make install the library, its header and cahermisk.pc below PREFIX (/usr/local), or DESTDIR/PREFIX'
+	@echo 'make lib     prove the library and build it into target/staticlib, unless nothing has changed'
+	@echo 'make install copy what make lib and make run built below PREFIX (/usr/local): the library, its header,'
+	@echo '             cahermisk.pc, the man page of scan and, on x86-64, scan; make uninstall removes them'
 	@echo 'make bench   the library, then its speed beside Rust loops for the same job, drawn in target/speed.svg'
 	@echo 'make stress  the library, then random and damaged pages for CAHERMISK_STRESS_SECONDS (120), beside the second reader'
 	@echo 'make figures what the last `make test` saw, into docs/FIGURES.md and the end of docs/SHAMS.md; and wrong definitions'
 	@echo 'make clean   remove what was built (target/)'
 
 # rt waits for all crates that it began together: of four at once, two processors lose less than of two.
-PROVE = RT_JOBS=$${RT_JOBS:-4} rt check
+JOBS = RT_JOBS=$${RT_JOBS:-4}
 
-# Nothing is shown of the proofs unless one fails.
-run: need-rt
+run: need-rt need-target
 	@echo 'Proving the program and what it stands on; the first time this takes some minutes.' >&2
-	@said=$$($(PROVE) scan 2>&1) || { printf '%s\n' "$$said"; exit 1; }
+	@$(JOBS) tools/prove target/prove.log check scan
 	@tools/sample-day
 
-test: need-rt need-cargo need-cc need-c++
+test: need-rt need-target need-cargo need-cc need-c++
 	@tools/gate
 
-lib: need-rt
-	$(PROVE) cahermisk
-	tools/native-lib
+lib: need-rt need-target
+	@$(JOBS) tools/lib
 
+# Where things are installed; DESTDIR goes before each of these folders.
 PREFIX = /usr/local
+BINDIR = $(PREFIX)/bin
+LIBDIR = $(PREFIX)/lib
+LIBEXECDIR = $(PREFIX)/libexec
+INCLUDEDIR = $(PREFIX)/include
+MANDIR = $(PREFIX)/share/man
+export PREFIX BINDIR LIBDIR LIBEXECDIR INCLUDEDIR MANDIR DESTDIR
 
-install: lib
-	tools/install '$(PREFIX)' '$(DESTDIR)'
+install uninstall:
+	@tools/install $@
 
 bench: need-cargo lib
 	@tools/inlined
@@ -58,8 +64,14 @@ figures:
 clean:
 	rm -rf target
 
-# What a missing tool is, and where it comes from.
-WHAT_rt = the command of the Rattle toolchain, which proves the crates
+# What of the toolchain is missing, and whether there is a folder to build in.
+need-rt:
+	@tools/toolchain >/dev/null
+
+need-target:
+	@tools/writable
+
+# What another missing tool is, and where it comes from.
 WHAT_cargo = the Rust toolchain, which builds the tests and the benchmark
 WHAT_cc = a C compiler, which links the tests and compiles the C example
 WHAT_c++ = a C++ compiler, which tests that C++ takes the header

@@ -2,13 +2,14 @@
 //! programs over the library show.
 
 use std::fs;
-use std::path::Path;
 use std::process::Command;
 
-use c_programs::{printed_by, room, run, top, NEEDS_CC};
+use c_programs::printed_by;
+use commands::{room, run, top, NEEDS_CC};
 
 mod c_programs;
 mod code_table;
+mod commands;
 
 const NEEDS_CXX: &str = "this test needs a C++ compiler, c++, on PATH";
 
@@ -211,50 +212,4 @@ int main(void) {
 fn a_run_is_a_struct_by_value() {
     let printed = printed_by("run_by_run", RUN_BY_RUN);
     assert_eq!(printed, "0 0 3 4 2 0 0\n0 1 8 0 6 3 3\n11 0 0 0 0 0 0\n");
-}
-
-/// A field of cahermisk.pc, with its variables put in, as words for a compiler.
-fn pc_words(pc: &str, field: &str, prefix: &str) -> Vec<String> {
-    let line = pc.lines().find_map(|line| line.strip_prefix(field));
-    let line = line.unwrap_or_else(|| panic!("cahermisk.pc has no {field}"));
-    let line = line.replace("${includedir}", &format!("{prefix}/include"));
-    let line = line.replace("${libdir}", &format!("{prefix}/lib"));
-    line.split_whitespace().map(str::to_owned).collect()
-}
-
-#[test]
-fn an_installed_library_is_found_by_its_pc_file() {
-    let room = room("installed");
-    let prefix = room
-        .to_str()
-        .expect("the folder's name is plain")
-        .to_owned();
-    let archive = Path::new(env!("CAHERMISK_ARCHIVE")).parent();
-    run(
-        Command::new(top().join("tools/install")).arg(&prefix).env(
-            "CAHERMISK_LIB_DIR",
-            archive.expect("the archive has a folder"),
-        ),
-        "tools/install",
-    );
-    let pc = fs::read_to_string(room.join("lib/pkgconfig/cahermisk.pc"));
-    let pc = pc.expect("cahermisk.pc is installed");
-    assert!(
-        pc.starts_with(&format!("prefix={prefix}\n")) && !pc.contains('@'),
-        "{pc}"
-    );
-
-    let source = room.join("run_by_run.c");
-    let program = room.join("run_by_run");
-    fs::write(&source, RUN_BY_RUN).expect("a source file can be written");
-    run(
-        Command::new("cc")
-            .args(pc_words(&pc, "Cflags:", &prefix))
-            .arg(&source)
-            .arg("-o")
-            .arg(&program)
-            .args(pc_words(&pc, "Libs:", &prefix)),
-        NEEDS_CC,
-    );
-    run(&mut Command::new(&program), "the program just linked");
 }

@@ -1,4 +1,4 @@
-//! The header, README.md, the package and the program `scan` name each code as data/codes.txt does.
+//! The header, README.md, the package, the program `scan` and its man page name codes as data/codes.txt does.
 
 use std::error::Error;
 use std::fmt::Debug;
@@ -11,6 +11,7 @@ mod code_table;
 const HEADER: &str = include_str!("../../include/cahermisk.h");
 const README: &str = include_str!("../../README.md");
 const PROGRAM: &str = include_str!("../../crates/scan_says/src/lib.rt");
+const MAN_PAGE: &str = include_str!("../../docs/scan.1");
 
 /// What a row has for a name or for words that its code has not.
 const NONE: &str = "-";
@@ -127,13 +128,28 @@ fn arm<'a>(before: &'a str, behind: &'a str) -> Option<[&'a str; 2]> {
     Some([number, words.split_once('"')?.0])
 }
 
+/// The number and the sentence of each code that the program has words for.
+fn sentences() -> Vec<[&'static str; 2]> {
+    let told = |[number, _, _, _, sentence]: [&'static str; 5]| [number, sentence];
+    let all = rows().into_iter().map(told);
+    all.filter(|row| row[1] != NONE).collect()
+}
+
 #[test]
 fn the_program_says_what_each_refusal_means() {
     let parts: Vec<&str> = PROGRAM.split("=> say(").collect();
     let arms = parts.windows(2).filter_map(|pair| arm(pair[0], pair[1]));
     let said: Vec<_> = arms.collect();
-    let told = |[number, _, _, _, sentence]: [&'static str; 5]| [number, sentence];
-    let all = rows().into_iter().map(told);
-    let rows: Vec<_> = all.filter(|row| row[1] != NONE).collect();
-    hold("crates/scan_says/src/lib.rt", &said, &rows);
+    hold("crates/scan_says/src/lib.rt", &said, &sentences());
+}
+
+#[test]
+fn the_man_page_says_what_the_program_says() {
+    let section = between(MAN_PAGE, "\n.SH CODES\n", "\n.SH ").expect("the section of codes");
+    // `^` would be drawn as an accent.
+    let section = section.replace("\\(ha", "^");
+    let parts = section.split("\n.TP\n.B ").skip(1);
+    let lines = parts.filter_map(|part| part.split_once('\n'));
+    let said: Vec<_> = lines.map(<[&str; 2]>::from).collect();
+    hold("docs/scan.1", &said, &sentences());
 }

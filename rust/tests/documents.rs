@@ -1,4 +1,5 @@
 //! What docs/FORMS.md and docs/SHAMS.md name is there: forms in the code, theorems in the promises, must-fail edits.
+//! And docs/scan.1 has the program's options.
 
 use std::fs;
 use std::path::{Path, PathBuf};
@@ -161,4 +162,30 @@ fn each_sham_has_its_theorem_and_its_edits() {
         theorems > 8 && edits > 24,
         "{theorems} theorems and {edits} edits were found"
     );
+}
+
+/// The options that head a paragraph of the man page.
+fn man_page_options(page: &str) -> Vec<String> {
+    let heads = page.split("\n.TP\n").skip(1);
+    let heads = heads.filter_map(|part| part.lines().next());
+    let words = heads.flat_map(|head| head.split_whitespace());
+    let plain = words.map(|word| word.replace("\\-", "-"));
+    plain.filter(|word| word.starts_with('-')).collect()
+}
+
+#[test]
+fn the_man_page_has_each_option_of_the_help() {
+    let options = man_page_options(&text_of("docs/scan.1"));
+    let printed = text_of("data/tries/printed.txt");
+    let of_help = printed.lines().filter(|line| line.starts_with("  -"));
+    let mut found = 0;
+    for line in of_help {
+        let names = line.split("  ").find(|part| !part.is_empty());
+        for name in names.unwrap_or_default().split(", ") {
+            let option = name.split(' ').next().unwrap_or_default().to_owned();
+            assert!(options.contains(&option), "docs/scan.1 has no {option}");
+            found += 1;
+        }
+    }
+    assert!(found > 4, "only {found} options were found");
 }

@@ -5,7 +5,8 @@ use std::fs;
 use std::path::Path;
 use std::process::Command;
 
-use super::{compiled, printed, run};
+use super::{compiled, printed};
+use crate::commands::run;
 
 const HEADER: &str = include_str!("../../../include/cahermisk.h");
 const VERSION: &str = env!("CARGO_PKG_VERSION");
