@@ -33,7 +33,7 @@ fn column(
         let file = day.join(format!("{name}-{number}.{kind}"));
         let n = MAX_ENTRIES.min(SECONDS - first);
         let selection = scan(&read(&file)?, n)
-            .map_err(|refusal| format!("{} is refused: {refusal}", file.display()))?;
+            .map_err(|refusal| format!("{}: refused with {refusal}", file.display()))?;
         seconds.extend(selection.selected().map(|i| first + i));
     }
     Ok(seconds)
@@ -61,15 +61,17 @@ pub fn calls(day: &Path, calls: Comparison) -> Seconds {
     })
 }
 
-/// How many lifts are busy: bit planes, the words low byte first.
+/// The words of a file of bit planes, low byte first.
+pub fn words(page: &[u8]) -> Result<Vec<u64>, Refusal> {
+    let word = |bytes: &[u8]| bytes.try_into().map(u64::from_le_bytes);
+    let words: Result<_, _> = page.chunks(8).map(word).collect();
+    words.map_err(|_| Refusal::InputLeftOver)
+}
+
+/// How many lifts are busy: bit planes.
 pub fn busy(day: &Path, lifts: Comparison) -> Seconds {
     column(day, "busy", "planes", |page, n| {
-        let (words, rest) = page.as_chunks();
-        if !rest.is_empty() {
-            return Err(Refusal::InputLeftOver);
-        }
-        let words: Vec<u64> = words.iter().copied().map(u64::from_le_bytes).collect();
-        vertical::scan_to_bitmap(&words, BUSY_WIDTH, n, lifts)
+        vertical::scan_to_bitmap(&words(page)?, BUSY_WIDTH, n, lifts)
     })
 }
 

@@ -93,6 +93,6 @@ fn the_example_tells_which_page_is_refused() {
     let page = file("level-1.delta");
     fs::write(folder.join("level-1.delta"), &page[..page.len() - 1]).expect("a page cut short");
     let error = scan_day::report(&folder).expect_err("a page cut short");
-    let told = "level-1.delta is refused: input ends too early";
+    let told = "level-1.delta: refused with code 5: input ends too early";
     assert!(error.to_string().ends_with(told), "{error}");
 }
