@@ -23,8 +23,13 @@
 //! # Ok::<(), cahermisk::Refusal>(())
 //! ```
 
+#![no_std]
 #![warn(missing_docs)]
 #![deny(unsafe_code)]
+
+extern crate alloc;
+#[cfg(feature = "std")]
+extern crate std;
 
 mod bitmap;
 mod comparison;
@@ -38,7 +43,7 @@ mod refusal;
 pub mod runs;
 pub mod vertical;
 
-pub use bitmap::Bitmap;
+pub use bitmap::{Bitmap, Selected};
 pub use comparison::Comparison;
 pub use operator::Operator;
 pub use refusal::Refusal;
