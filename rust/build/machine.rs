@@ -6,15 +6,16 @@ use std::{env, fs, str};
 /// Cargo's word for a machine, and ELF's number.
 const MACHINES: [(&str, u16); 2] = [("x86_64", 62), ("aarch64", 183)];
 
-/// Refuses an archive for another machine. One that does not tell its machine, and a machine that is not among
-/// those above, are left to the linker.
+/// Refuses an archive for another machine. One that does not tell its machine, and a machine that is not
+/// among those above, are left to the linker.
 pub fn judge(archive: &Path) -> Result<(), String> {
     let bytes = fs::read(archive).map_err(|error| format!("{}: {error}", archive.display()))?;
     let target = env::var("CARGO_CFG_TARGET_ARCH").unwrap_or_default();
     let wanted = MACHINES.iter().find(|(name, _)| *name == target);
     match (machine_of(&bytes), wanted) {
         (Some(machine), Some(&(_, number))) if machine != number => Err(format!(
-            "{} is for {}, and this build is for {target}: `make lib` writes it for the machine that it runs on.",
+            "{} is for {}, and this build is for {target}: \
+             `make lib` writes it for the machine that it runs on.",
             archive.display(),
             name_of(machine)
         )),
@@ -30,8 +31,8 @@ fn name_of(machine: u16) -> String {
     )
 }
 
-/// The machine of an archive's first object. A member has a head of 60 bytes, with its size in digits, and begins
-/// at an even place.
+/// The machine of an archive's first object. A member has a head of 60 bytes, with its size in digits,
+/// and begins at an even place.
 fn machine_of(archive: &[u8]) -> Option<u16> {
     let mut rest = archive.strip_prefix(b"!<arch>\n")?;
     loop {

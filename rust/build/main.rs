@@ -1,4 +1,4 @@
-//! Links libcahermisk.a, the proved library, from one of several `places`, if it is for the `machine` built for.
+//! Links libcahermisk.a, the proved library, from one of some `places`, if it is for the right `machine`.
 
 mod machine;
 mod places;

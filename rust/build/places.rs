@@ -1,5 +1,5 @@
-//! Where the archive is looked for: in the folder that is named, and there alone; or where `make lib` writes it; or
-//! where `make install` put it, as pkg-config tells.
+//! Where the archive is looked for: in the folder that is named, and there alone; or where `make lib`
+//! writes it; or where `make install` put it, as pkg-config tells.
 
 use std::env;
 use std::ffi::OsStr;

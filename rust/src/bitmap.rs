@@ -42,7 +42,7 @@ impl Bitmap {
         }
     }
 
-    /// The bitmap of `n` entries that stands in `bytes`, from a file or from a call that wrote to a place lent.
+    /// The bitmap of `n` entries that stands in `bytes`, such as a file's or a place that a scan was lent.
     ///
     /// # Errors
     ///

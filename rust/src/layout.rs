@@ -1,5 +1,6 @@
-//! What the layouts share: their limits, and the calls that make room for their result. Past a limit no more room
-//! is made than the limit allows, or none: the library refuses such a call before it looks at the room.
+//! What the layouts share: their limits, and the calls that make room for their result. Past a limit no
+//! more room is made than the limit allows, or none: the library refuses such a call before it looks at
+//! the room.
 
 use alloc::vec;
 use alloc::vec::Vec;

@@ -79,8 +79,8 @@ refusals! {
 
 impl Error for Refusal {}
 
-/// For those who read pages in a function that gives an `io::Result`: the error's kind is `InvalidData`, and it
-/// holds the refusal. Needs the feature `std`.
+/// For those who read pages in a function that gives an `io::Result`: the error's kind is `InvalidData`,
+/// and it holds the refusal. Needs the feature `std`.
 ///
 /// ```
 /// use std::io;

@@ -1,4 +1,5 @@
-//! The package by its features: without `std` a program that has no std builds with it, and with it none does.
+//! The package by its features: without `std` a program that has no std builds with it, and with it none
+//! does.
 
 use std::fs;
 use std::path::Path;

@@ -1,4 +1,5 @@
-//! The package's build script in places made for it: which archive it links, and the sentence where there is none.
+//! The package's build script in places made for it: which archive it links, and the sentence where there
+//! is none.
 
 use std::fs;
 use std::path::{Path, PathBuf};
@@ -170,7 +171,8 @@ fn an_archive_for_another_machine_is_refused() {
     );
 }
 
-/// What does not tell its machine is the linker's to judge, and so is a machine that the script does not know.
+/// What does not tell its machine is the linker's to judge, and so is a machine that the script does not
+/// know.
 #[test]
 fn other_archives_are_left_to_the_linker() {
     let cut = &archive_for(183)[..140];

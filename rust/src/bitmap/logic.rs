@@ -5,7 +5,7 @@ use core::ops::{BitAnd, BitAndAssign, BitOr, BitOrAssign, Not};
 use super::Bitmap;
 
 impl Bitmap {
-    /// Of two bitmaps of different lengths the shorter one is taken with entries more, none of them selected.
+    /// The shorter of two bitmaps is taken with as many entries as the longer, the added ones not selected.
     fn join(&mut self, other: &Bitmap, join: impl Fn(u8, u8) -> u8) {
         self.entries = self.entries.max(other.entries);
         self.bytes.resize(Bitmap::bytes_for(self.entries), 0);

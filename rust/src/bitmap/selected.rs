@@ -7,7 +7,7 @@ use core::iter::FusedIterator;
 #[must_use = "iterators are lazy and do nothing unless consumed"]
 pub struct Selected<'a> {
     bytes: &'a [u8],
-    /// How many are still to be given: the two ends never pass each other, since they stop when none is left.
+    /// How many are still to be given. The two ends do not pass each other: both stop when none is left.
     left: usize,
     front: Word,
     back: Word,

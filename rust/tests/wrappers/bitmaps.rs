@@ -115,7 +115,8 @@ fn lengthened(selection: &[bool], n: usize) -> Vec<bool> {
     [selection, &more].concat()
 }
 
-/// Every way to write an operator gives the same; it is held to the operator on bools, over the longer of the two.
+/// Every way to write an operator gives the same; it is held to the operator on bools, over the longer of
+/// the two.
 fn and_or(a: &[bool], b: &[bool]) {
     let (left, right) = (bitmap(a), bitmap(b));
     let (a, b) = (lengthened(a, b.len()), lengthened(b, a.len()));
@@ -159,7 +160,8 @@ fn all_other_entries() {
     }
 }
 
-/// Bitmaps are equal, and have one place in a set, exactly if they have the same entries selected of as many.
+/// Bitmaps are equal, and have one place in a set, exactly if they have the same entries selected of as
+/// many.
 #[test]
 fn equal_bitmaps_have_equal_hashes() {
     let mut set = HashSet::new();

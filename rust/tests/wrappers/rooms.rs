@@ -1,5 +1,5 @@
-//! Room functions: what a writer takes of the room that they tell, and 0 past the limits. The header's macros are
-//! held to them where C is compiled.
+//! Room functions: what a writer takes of the room that they tell, and 0 past the limits. The header's
+//! macros are held to them where C is compiled.
 
 use cahermisk::{delta, horizontal, runs, vertical, Bitmap, Refusal, MAX_ENTRIES, MAX_WIDTH};
 
@@ -24,7 +24,8 @@ const COUNTS: [usize; 14] = [
     MAX_ENTRIES,
 ];
 
-/// Entries of a width without a pattern, so that no run of them is a repeated one but at the smallest widths.
+/// Entries of a width without a pattern, so that no run of them is a repeated one but at the smallest
+/// widths.
 fn entries(width: u32, n: usize) -> Vec<u32> {
     let mut random = Random::new("rooms");
     let entry = |bits: u64| (bits & ((1 << width) - 1)) as u32;
