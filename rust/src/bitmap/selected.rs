@@ -37,7 +37,7 @@ impl Word {
 impl Selected<'_> {
     /// `count` bits of the bytes are set.
     pub(crate) fn of(bytes: &[u8], count: usize) -> Selected<'_> {
-        let last = bytes.len().saturating_sub(1) / 8 * 64;
+        let last = bytes.len() / 8 * 64;
         Selected {
             bytes,
             left: count,
