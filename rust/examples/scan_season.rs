@@ -19,7 +19,7 @@ pub mod scan_day;
 
 const DAYS: usize = 180;
 /// The fastest of so many is told.
-const PASSES: usize = 5;
+const PASSES: usize = 20;
 
 /// The scan of one page into a bitmap that is lent: how many entries are selected.
 type Scan = Box<dyn Fn(&mut [u8]) -> Result<usize, Refusal> + Sync>;
