@@ -11,17 +11,47 @@ use cahermisk::{delta, dictionary, runs, vertical, Bitmap, Comparison, Refusal, 
 const SECONDS: usize = 86_400;
 
 /// Bits of a second's calls, and of a count of busy lifts.
-const CALLS_WIDTH: u32 = 3;
-const BUSY_WIDTH: u32 = 4;
+pub const CALLS_WIDTH: u32 = 3;
+pub const BUSY_WIDTH: u32 = 4;
 
 /// The seconds that a scan selected, or why it could not.
 type Seconds = Result<Vec<usize>, Box<dyn Error>>;
 
-fn read(file: &Path) -> Result<Vec<u8>, String> {
+pub fn read(file: &Path) -> Result<Vec<u8>, String> {
     fs::read(file).map_err(|error| format!("{}: {error}", file.display()))
 }
 
-/// Scans a column page by page, NAME-1.KIND and so on.
+/// The entries from the second `first` on.
+pub struct Page {
+    pub file: PathBuf,
+    pub bytes: Vec<u8>,
+    pub first: usize,
+    pub n: usize,
+}
+
+/// A column page by page, NAME-1.KIND and so on.
+pub fn pages<'a>(
+    day: &'a Path,
+    name: &'a str,
+    kind: &'a str,
+) -> impl Iterator<Item = Result<Page, String>> + 'a {
+    let firsts = (0..SECONDS).step_by(MAX_ENTRIES);
+    (1..).zip(firsts).map(move |(number, first)| {
+        let file = day.join(format!("{name}-{number}.{kind}"));
+        Ok(Page {
+            bytes: read(&file)?,
+            file,
+            first,
+            n: MAX_ENTRIES.min(SECONDS - first),
+        })
+    })
+}
+
+pub fn refused(file: &Path, refusal: Refusal) -> String {
+    format!("{}: refused with {refusal}", file.display())
+}
+
+/// Scans a column page by page.
 fn column(
     day: &Path,
     name: &str,
@@ -29,12 +59,11 @@ fn column(
     scan: impl Fn(&[u8], usize) -> Result<Bitmap, Refusal>,
 ) -> Seconds {
     let mut seconds = Vec::new();
-    for (number, first) in (1..).zip((0..SECONDS).step_by(MAX_ENTRIES)) {
-        let file = day.join(format!("{name}-{number}.{kind}"));
-        let n = MAX_ENTRIES.min(SECONDS - first);
-        let selection = scan(&read(&file)?, n)
-            .map_err(|refusal| format!("{} is refused: {refusal}", file.display()))?;
-        seconds.extend(selection.selected().map(|i| first + i));
+    for page in pages(day, name, kind) {
+        let page = page?;
+        let selection = scan(&page.bytes, page.n);
+        let selection = selection.map_err(|refusal| refused(&page.file, refusal))?;
+        seconds.extend(selection.selected().map(|i| page.first + i));
     }
     Ok(seconds)
 }
@@ -61,15 +90,17 @@ pub fn calls(day: &Path, calls: Comparison) -> Seconds {
     })
 }
 
-/// How many lifts are busy: bit planes, the words low byte first.
+/// The words of a file of bit planes, low byte first.
+pub fn words(page: &[u8]) -> Result<Vec<u64>, Refusal> {
+    let word = |bytes: &[u8]| bytes.try_into().map(u64::from_le_bytes);
+    let words: Result<_, _> = page.chunks(8).map(word).collect();
+    words.map_err(|_| Refusal::InputLeftOver)
+}
+
+/// How many lifts are busy: bit planes.
 pub fn busy(day: &Path, lifts: Comparison) -> Seconds {
     column(day, "busy", "planes", |page, n| {
-        let (words, rest) = page.as_chunks();
-        if !rest.is_empty() {
-            return Err(Refusal::InputLeftOver);
-        }
-        let words: Vec<u64> = words.iter().copied().map(u64::from_le_bytes).collect();
-        vertical::scan_to_bitmap(&words, BUSY_WIDTH, n, lifts)
+        vertical::scan_to_bitmap(&words(page)?, BUSY_WIDTH, n, lifts)
     })
 }
 

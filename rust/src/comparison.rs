@@ -14,6 +14,7 @@ use crate::Operator;
 /// assert_eq!(band, Comparison::new(Operator::Between, 230, 250));
 /// ```
 #[derive(Clone, Copy, Debug, PartialEq, Eq, Hash)]
+#[must_use]
 pub struct Comparison {
     /// How the entry is compared.
     pub operator: Operator,

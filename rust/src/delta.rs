@@ -8,13 +8,28 @@
 //! [`scan`] and [`unpack`] read pages of any writer: block sizes from 128 to 16,384, miniblocks of any
 //! multiple of 32. [`pack`] writes blocks of 128 in 4 miniblocks.
 
+use alloc::vec::Vec;
+
 use crate::ffi::delta as ffi;
 use crate::layout::{to_bitmap, to_vec};
 use crate::{Bitmap, Comparison, Refusal, MAX_ENTRIES};
 
 /// Bytes that are enough for the page of any `n` entries: 11 for the header, and for each block of 128
-/// deltas 5 and 4 and four bodies of 128.
-fn page_len_at_most(n: usize) -> usize {
+/// deltas 5 and 4 and four bodies of 128; 0 past the limit.
+///
+/// ```
+/// use cahermisk::delta;
+///
+/// let mut page = [0; delta::page_bytes(2)];
+/// assert_eq!(page.len(), 11 + 521);
+/// assert_eq!(delta::pack(&[i32::MAX, i32::MIN], &mut page), Ok(14));
+/// assert_eq!(delta::page_bytes(16_385), 0);
+/// ```
+#[must_use]
+pub const fn page_bytes(n: usize) -> usize {
+    if n > MAX_ENTRIES {
+        return 0;
+    }
     11 + n.saturating_sub(1).div_ceil(128) * 521
 }
 
@@ -110,8 +125,7 @@ pub fn unpack_to_vec(page: &[u8], n: usize) -> Result<Vec<i32>, Refusal> {
 }
 
 /// Packs all of `entries` to the front of `page`; the bytes after their page are kept. Gives the
-/// number of bytes written, which depends on the entries: 11 + 521 × ceil((entries − 1) / 128) are
-/// enough.
+/// number of bytes written, which depends on the entries: [`page_bytes`] are enough.
 ///
 /// Blocks are of 128 deltas in 4 miniblocks; the smallest delta is the least, widths are the least, and
 /// bodies are filled with 0.
@@ -153,6 +167,5 @@ pub fn pack(entries: &[i32], page: &mut [u8]) -> Result<usize, Refusal> {
 /// # Ok::<(), cahermisk::Refusal>(())
 /// ```
 pub fn pack_to_vec(entries: &[i32]) -> Result<Vec<u8>, Refusal> {
-    let enough = page_len_at_most(entries.len().min(MAX_ENTRIES));
-    to_vec(enough, |page| pack(entries, page))
+    to_vec(page_bytes(entries.len()), |page| pack(entries, page))
 }

@@ -7,6 +7,8 @@
 //!
 //! [`scan`] finds the comparison's place among the values once, and compares indexes from there on.
 
+use alloc::vec::Vec;
+
 use crate::ffi::dictionary as ffi;
 use crate::layout::{to_bitmap, to_vec};
 use crate::{Bitmap, Comparison, Refusal, MAX_ENTRIES};

@@ -3,12 +3,27 @@
 //! Entry i takes the bits i × width to i × width + width − 1 of the page, bytes in order. A page of
 //! n entries has exactly ceil(n × width / 8) bytes, and the unused bits of the last one are 0.
 
+use alloc::vec::Vec;
+
 use crate::ffi::HORIZONTAL;
+use crate::layout::within_limits;
 use crate::{Bitmap, Comparison, Refusal};
 
-/// The bytes of the page of `n` entries.
-fn page_len(width: usize, n: usize) -> usize {
-    (n * width).div_ceil(8)
+/// The bytes of the page of `n` entries, ceil(n × width / 8); 0 past the limits.
+///
+/// ```
+/// use cahermisk::horizontal;
+///
+/// let mut page = [0; horizontal::page_bytes(3, 9)];
+/// assert_eq!(horizontal::pack(&[7; 9], 3, &mut page), Ok(4));
+/// assert_eq!(horizontal::page_bytes(33, 9), 0);
+/// ```
+#[must_use]
+pub const fn page_bytes(width: u32, n: usize) -> usize {
+    if !within_limits(width, n) {
+        return 0;
+    }
+    (n * width as usize).div_ceil(8)
 }
 
 /// Compares the `n` entries of `page` and writes the selection to the first ceil(n / 8) bytes of
@@ -103,7 +118,7 @@ pub fn unpack_to_vec(page: &[u8], width: u32, n: usize) -> Result<Vec<u32>, Refu
 }
 
 /// Packs all of `entries` to the front of `page`; the bytes after it are kept. Gives the number of
-/// bytes written, ceil(entries × width / 8).
+/// bytes written, which is [`page_bytes`].
 ///
 #[doc = include_str!("refusal/packing.md")]
 ///
@@ -137,5 +152,5 @@ pub fn pack(entries: &[u32], width: u32, page: &mut [u8]) -> Result<usize, Refus
 /// # Ok::<(), cahermisk::Refusal>(())
 /// ```
 pub fn pack_to_vec(entries: &[u32], width: u32) -> Result<Vec<u8>, Refusal> {
-    HORIZONTAL.pack_to_vec(entries, width, page_len)
+    HORIZONTAL.pack_to_vec(entries, width, page_bytes)
 }

@@ -1,15 +1,24 @@
-//! What the layouts share: the calls that make room for their result. Past a limit, room is made for what the
-//! limit allows: enough for the library to say what is wrong with a call, whatever its numbers are.
+//! What the layouts share: their limits, and the calls that make room for their result. Past a limit no
+//! more room is made than the limit allows, or none: the library refuses such a call before it looks at
+//! the room.
+
+use alloc::vec;
+use alloc::vec::Vec;
 
 use crate::ffi::Layout;
 use crate::{Bitmap, Comparison, Refusal, MAX_ENTRIES, MAX_WIDTH};
+
+/// Whether a page may have `n` entries of so many bits.
+pub(crate) const fn within_limits(width: u32, n: usize) -> bool {
+    width <= MAX_WIDTH && n <= MAX_ENTRIES
+}
 
 /// A scan of `n` entries to a new bitmap.
 pub(crate) fn to_bitmap(
     n: usize,
     scan: impl FnOnce(&mut [u8]) -> Result<usize, Refusal>,
 ) -> Result<Bitmap, Refusal> {
-    let mut bytes = vec![0; n.min(MAX_ENTRIES).div_ceil(8)];
+    let mut bytes = vec![0; Bitmap::bytes_for(n)];
     let count = scan(&mut bytes)?;
     Ok(Bitmap::new(bytes, n, count))
 }
@@ -52,12 +61,10 @@ impl<T: Clone + Default> Layout<T> {
         &self,
         entries: &[u32],
         width: u32,
-        enough: fn(usize, usize) -> usize,
+        enough: fn(u32, usize) -> usize,
     ) -> Result<Vec<T>, Refusal> {
-        let enough = enough(
-            width.min(MAX_WIDTH) as usize,
-            entries.len().min(MAX_ENTRIES),
-        );
-        to_vec(enough, |page| self.pack(entries, width, page))
+        to_vec(enough(width, entries.len()), |page| {
+            self.pack(entries, width, page)
+        })
     }
 }

@@ -10,7 +10,8 @@
 //! - [`delta`]: delta pages, signed 32-bit entries kept as deltas from one to the next.
 //! - [`dictionary`]: dictionary columns, signed 32-bit entries kept as indexes of a dictionary.
 //!
-//! A [`Comparison`] is an [`Operator`] and two constants; a scan's result is a [`Bitmap`].
+//! A [`Comparison`] is an [`Operator`] and two constants; a scan's result is a [`Bitmap`], and two of
+//! them are joined by `&` and `|`.
 //!
 //! ```
 //! use cahermisk::{horizontal, Comparison};
@@ -22,9 +23,40 @@
 //! assert_eq!(selection.selected().collect::<Vec<_>>(), [0, 1, 2]);
 //! # Ok::<(), cahermisk::Refusal>(())
 //! ```
+//!
+//! # Room
+//!
+//! Of a layout's functions those whose names end in `_to_vec` or `_to_bitmap` allocate their result. The
+//! others write to a place lent by the caller and allocate nothing. How much room is enough is told by
+//! `const` functions, so that it may be an array's length: [`horizontal::page_bytes`],
+//! [`vertical::page_words`], [`runs::page_bytes`], [`delta::page_bytes`], and [`Bitmap::bytes_for`] for
+//! every scan. They give 0 for what is past the limits, which every call refuses before it looks at the
+//! room.
+//!
+//! # Features
+//!
+//! The package is `no_std` and needs `alloc`. The feature `std`, a default, adds one thing: a [`Refusal`]
+//! becomes a `std::io::Error`. For a target without std, say `default-features = false`.
+//!
+//! # Linking
+//!
+//! The build links `libcahermisk.a`, and takes the first of these:
+//!
+//! 1. the one in the folder that the environment variable `CAHERMISK_LIB_DIR` names. If it is set, no other
+//!    is looked for; a relative path is taken from the folder of this package, where its `Cargo.toml` is,
+//!    and not from where cargo was started;
+//! 2. the one that `make lib` wrote, in `../target/staticlib` beside this package;
+//! 3. an installed one (`make install`), by `pkg-config --variable=libdir cahermisk`.
+//!
+//! An archive for another machine than the one built for is refused with a sentence.
 
+#![no_std]
 #![warn(missing_docs)]
 #![deny(unsafe_code)]
+
+extern crate alloc;
+#[cfg(feature = "std")]
+extern crate std;
 
 mod bitmap;
 mod comparison;
@@ -38,7 +70,7 @@ mod refusal;
 pub mod runs;
 pub mod vertical;
 
-pub use bitmap::Bitmap;
+pub use bitmap::{Bitmap, Selected};
 pub use comparison::Comparison;
 pub use operator::Operator;
 pub use refusal::Refusal;

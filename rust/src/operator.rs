@@ -38,6 +38,7 @@ impl Operator {
     ];
 
     /// The operator's number, 0 to 7.
+    #[must_use]
     pub const fn number(self) -> u32 {
         self as u32
     }

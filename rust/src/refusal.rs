@@ -1,7 +1,7 @@
 //! Why a call was refused.
 
-use std::error::Error;
-use std::fmt;
+use core::error::Error;
+use core::fmt;
 
 /// Makes `Refusal` of one list: the number of each code, its name, and what it means.
 macro_rules! refusals {
@@ -24,6 +24,7 @@ macro_rules! refusals {
             /// assert_eq!(Refusal::from_code(0), None);
             /// assert_eq!(Refusal::from_code(6), Some(Refusal::InputLeftOver));
             /// ```
+            #[must_use]
             pub const fn from_code(code: u32) -> Option<Refusal> {
                 Some(match code {
                     0 => return None,
@@ -33,6 +34,7 @@ macro_rules! refusals {
             }
 
             /// The code of the refusal, from 1 up.
+            #[must_use]
             pub const fn code(self) -> u32 {
                 match self {
                     $(Refusal::$name => $code,)*
@@ -43,10 +45,11 @@ macro_rules! refusals {
 
         impl fmt::Display for Refusal {
             fn fmt(&self, f: &mut fmt::Formatter<'_>) -> fmt::Result {
-                f.write_str(match self {
+                let words = match self {
                     $(Refusal::$name => $words,)*
-                    Refusal::Unknown(code) => return write!(f, "refused with code {code}"),
-                })
+                    Refusal::Unknown(_) => "not known to this package",
+                };
+                write!(f, "code {}: {words}", self.code())
             }
         }
     };
@@ -75,3 +78,26 @@ refusals! {
 }
 
 impl Error for Refusal {}
+
+/// For those who read pages in a function that gives an `io::Result`: the error's kind is `InvalidData`,
+/// and it holds the refusal. Needs the feature `std`.
+///
+/// ```
+/// use std::io;
+///
+/// use cahermisk::{delta, Comparison, Refusal};
+///
+/// fn count(page: &[u8], n: usize) -> io::Result<usize> {
+///     Ok(delta::scan_to_bitmap(page, n, Comparison::less(0))?.count())
+/// }
+///
+/// let error = count(&[0x80, 0x01], 1).unwrap_err();
+/// assert_eq!(error.to_string(), "code 5: input ends too early");
+/// assert_eq!(error.downcast().ok(), Some(Refusal::InputEndsTooEarly));
+/// ```
+#[cfg(feature = "std")]
+impl From<Refusal> for std::io::Error {
+    fn from(refusal: Refusal) -> std::io::Error {
+        std::io::Error::new(std::io::ErrorKind::InvalidData, refusal)
+    }
+}

@@ -13,12 +13,29 @@ mod one;
 
 pub use one::{next, Run, Runs};
 
+use alloc::vec::Vec;
+
 use crate::ffi::RUNS;
+use crate::layout::within_limits;
 use crate::{Bitmap, Comparison, Refusal};
 
-/// Bytes that are enough for the stream of any `n` entries: a header and `width` bytes for each eight.
-fn stream_len_at_most(width: usize, n: usize) -> usize {
-    n.div_ceil(8) * (width + 1)
+/// Bytes that are enough for the stream of any `n` entries, a header and `width` bytes for each eight:
+/// ceil(n / 8) × (width + 1); 0 past the limits.
+///
+/// ```
+/// use cahermisk::runs;
+///
+/// let mut page = [0; runs::page_bytes(3, 9)];
+/// assert_eq!(page.len(), 8);
+/// assert_eq!(runs::pack(&[0, 1, 2, 3, 4, 5, 6, 7, 0], 3, &mut page), Ok(7));
+/// assert_eq!(runs::page_bytes(33, 9), 0);
+/// ```
+#[must_use]
+pub const fn page_bytes(width: u32, n: usize) -> usize {
+    if !within_limits(width, n) {
+        return 0;
+    }
+    n.div_ceil(8) * (width as usize + 1)
 }
 
 /// Compares the `n` entries of `page` and writes the selection to the first ceil(n / 8) bytes of
@@ -120,7 +137,7 @@ pub fn unpack_to_vec(page: &[u8], width: u32, n: usize) -> Result<Vec<u32>, Refu
 }
 
 /// Packs all of `entries` to the front of `page`; the bytes after their stream are kept. Gives the
-/// number of bytes written, which depends on the entries: (width + 1) × ceil(entries / 8) are enough.
+/// number of bytes written, which depends on the entries: [`page_bytes`] are enough.
 ///
 /// Eight or more equal entries, from where a run may begin, are one repeated run. Other entries go by
 /// eight into packed runs of at most 63 groups; the last group is filled with 0.
@@ -157,5 +174,5 @@ pub fn pack(entries: &[u32], width: u32, page: &mut [u8]) -> Result<usize, Refus
 /// # Ok::<(), cahermisk::Refusal>(())
 /// ```
 pub fn pack_to_vec(entries: &[u32], width: u32) -> Result<Vec<u8>, Refusal> {
-    RUNS.pack_to_vec(entries, width, stream_len_at_most)
+    RUNS.pack_to_vec(entries, width, page_bytes)
 }

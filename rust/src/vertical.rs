@@ -4,12 +4,27 @@
 //! of the group is bit j, lowest first, of each word. The planes of n entries have exactly
 //! ceil(n / 64) × width words, and the lanes of the last group after entry n − 1 are 0.
 
+use alloc::vec::Vec;
+
 use crate::ffi::VERTICAL;
+use crate::layout::within_limits;
 use crate::{Bitmap, Comparison, Refusal};
 
-/// The words of the planes of `n` entries.
-fn words_len(width: usize, n: usize) -> usize {
-    n.div_ceil(64) * width
+/// The words of the planes of `n` entries, ceil(n / 64) × width; 0 past the limits.
+///
+/// ```
+/// use cahermisk::vertical;
+///
+/// let mut words = [0; vertical::page_words(2, 65)];
+/// assert_eq!(vertical::pack(&[3; 65], 2, &mut words), Ok(4));
+/// assert_eq!(vertical::page_words(33, 65), 0);
+/// ```
+#[must_use]
+pub const fn page_words(width: u32, n: usize) -> usize {
+    if !within_limits(width, n) {
+        return 0;
+    }
+    n.div_ceil(64) * width as usize
 }
 
 /// Compares the `n` entries of `words` and writes the selection to the first ceil(n / 8) bytes of
@@ -105,7 +120,7 @@ pub fn unpack_to_vec(words: &[u64], width: u32, n: usize) -> Result<Vec<u32>, Re
 }
 
 /// Packs all of `entries` to the front of `words`; the words after them are kept. Gives the number of
-/// words written, ceil(entries / 64) × width.
+/// words written, which is [`page_words`].
 ///
 #[doc = include_str!("refusal/packing.md")]
 ///
@@ -139,5 +154,5 @@ pub fn pack(entries: &[u32], width: u32, words: &mut [u64]) -> Result<usize, Ref
 /// # Ok::<(), cahermisk::Refusal>(())
 /// ```
 pub fn pack_to_vec(entries: &[u32], width: u32) -> Result<Vec<u64>, Refusal> {
-    VERTICAL.pack_to_vec(entries, width, words_len)
+    VERTICAL.pack_to_vec(entries, width, page_words)
 }

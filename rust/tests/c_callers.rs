@@ -5,6 +5,7 @@ use std::fs;
 use std::process::Command;
 
 use c_programs::printed_by;
+use cahermisk::{delta, horizontal, runs, vertical, Bitmap};
 use commands::{room, run, top, NEEDS_CC};
 
 mod c_programs;
@@ -43,13 +44,34 @@ const NUMBERS: [(&str, u32); 26] = [
     ("CAHERMISK_DELTA_BYTES(16384)", 66_699),
 ];
 
+/// The header's macros of room with the package's numbers, at every width and at counts about each step.
+fn rooms() -> Vec<(String, String)> {
+    let mut rooms = Vec::new();
+    let mut put =
+        |of: String, room: usize| rooms.push((format!("CAHERMISK_{of}"), room.to_string()));
+    for n in [0, 1, 7, 8, 9, 63, 64, 65, 128, 129, 130, 16_383, 16_384] {
+        for width in 0..=32 {
+            let arguments = format!("{width}, {n}");
+            let bytes = horizontal::page_bytes(width, n);
+            put(format!("HORIZONTAL_BYTES({arguments})"), bytes);
+            let words = vertical::page_words(width, n);
+            put(format!("VERTICAL_WORDS({arguments})"), words);
+            let bytes = runs::page_bytes(width, n);
+            put(format!("RUNS_BYTES({arguments})"), bytes);
+        }
+        put(format!("DELTA_BYTES({n})"), delta::page_bytes(n));
+        put(format!("BITMAP_BYTES({n})"), Bitmap::bytes_for(n));
+    }
+    rooms
+}
+
 /// Compiles a file that includes the header alone, twice, calls its functions and holds its numbers to ours.
 fn compile_header(compiler: &str, needs: &str, standard: &str, file: &str) {
     let mut text = HEADER_USER.to_string();
     let others = NUMBERS.map(|(name, number)| (name.to_owned(), number.to_string()));
     let code = |[number, name, ..]: [&str; 5]| (format!("CAHERMISK_{name}"), number.to_owned());
     let codes = code_table::rows().into_iter().map(code);
-    for (i, (name, number)) in codes.chain(others).enumerate() {
+    for (i, (name, number)) in codes.chain(others).chain(rooms()).enumerate() {
         text += &format!("typedef char number_{i}[{name} == {number} ? 1 : -1];\n");
     }
     let source = room(file).join(file);

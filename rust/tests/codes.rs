@@ -96,8 +96,10 @@ fn in_package(code: u32) -> [String; 3] {
         return [code.to_string(), NONE.to_owned(), NONE.to_owned()];
     };
     let error: Box<dyn Error> = Box::new(refusal);
-    let (number, words) = (refusal.code().to_string(), error.to_string());
-    [number, format!("{refusal:?}"), words]
+    let (number, told) = (refusal.code().to_string(), error.to_string());
+    let words = told.strip_prefix(&format!("code {number}: "));
+    let words = words.unwrap_or_else(|| panic!("{told} does not begin with code {number}"));
+    [number, format!("{refusal:?}"), words.to_owned()]
 }
 
 #[test]
@@ -116,7 +118,8 @@ fn the_package_keeps_the_number_of_a_code_that_it_has_no_name_for() {
         assert_eq!(unknown, Some(Refusal::Unknown(code)));
         assert_eq!(unknown.map(Refusal::code), Some(code));
         let words = unknown.map(|refusal| refusal.to_string());
-        assert_eq!(words, Some(format!("refused with code {code}")));
+        let told = format!("code {code}: not known to this package");
+        assert_eq!(words, Some(told));
     }
 }
 

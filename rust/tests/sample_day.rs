@@ -1,17 +1,18 @@
-//! The sample day of data/day: its generator makes it again, and the example that scans it tells what the recorder saw.
+//! The sample day of data/day: its generator makes it again, and the examples that scan it tell what the recorder saw.
 
 use std::fs;
 use std::path::{Path, PathBuf};
 
 use cahermisk::Comparison;
+use scan_season::scan_day;
 
 #[path = "../examples/make_day/columns.rs"]
 mod columns;
 #[path = "../examples/make_day/pages.rs"]
 mod pages;
-#[path = "../examples/scan_day.rs"]
+#[path = "../examples/scan_season.rs"]
 #[allow(dead_code, reason = "main is for the example alone")]
-mod scan_day;
+mod scan_season;
 
 fn day() -> PathBuf {
     Path::new(env!("CARGO_MANIFEST_DIR")).join("../data/day")
@@ -93,6 +94,37 @@ fn the_example_tells_which_page_is_refused() {
     let page = file("level-1.delta");
     fs::write(folder.join("level-1.delta"), &page[..page.len() - 1]).expect("a page cut short");
     let error = scan_day::report(&folder).expect_err("a page cut short");
-    let told = "level-1.delta is refused: input ends too early";
+    let told = "level-1.delta: refused with code 5: input ends too early";
     assert!(error.to_string().ends_with(told), "{error}");
+}
+
+/// Every thread has its part of the pages, also where there are more threads than pages.
+#[test]
+fn a_season_has_the_seconds_of_its_days() {
+    let season = scan_season::season(&day(), 3).expect("the sample day");
+    let entries: usize = season.iter().map(|page| page.n).sum();
+    assert_eq!((season.len(), entries), (3 * 24, 3 * 4 * 86_400));
+    for threads in [1, 2, 5, 100] {
+        let selected = scan_season::selected(&season, threads);
+        assert_eq!(selected, Ok(3 * (74_559 + 16_812 + 7_032 + 12_814)));
+    }
+}
+
+#[test]
+fn a_season_tells_which_page_is_refused() {
+    let folder = Path::new(env!("CARGO_TARGET_TMPDIR")).join("season-cut");
+    fs::create_dir_all(&folder).expect("a folder for a day");
+    for (name, bytes) in pages::files().expect("the library writes the day") {
+        fs::write(folder.join(name), bytes).expect("a page");
+    }
+    let busy = file("busy-3.planes");
+    fs::write(folder.join("busy-3.planes"), &busy[1..]).expect("a page cut short");
+    let season = scan_season::season(&folder, 2).expect("all files are there");
+    for threads in [1, 2] {
+        let told = scan_season::selected(&season, threads).expect_err("a page cut short");
+        assert!(
+            told.ends_with("busy-3.planes: refused with code 6: input left over"),
+            "{told}"
+        );
+    }
 }

@@ -1,6 +1,13 @@
 //! The library's speed beside Rust loops for the same job, as tables for docs/BENCHMARKS.md and, in target/speed.svg,
-//! as its picture. It prints and asserts nothing about time. A layout is a module here, with its own rows.
+//! as its picture. It prints and asserts nothing about time. A layout is a module here, with its own rows, and so are
+//! bitmaps.
 
+#![allow(
+    clippy::incompatible_msrv,
+    reason = "the benchmark may need a newer compiler than the package"
+)]
+
+mod bitmap;
 mod bits;
 mod clock;
 mod column;
@@ -34,6 +41,7 @@ fn main() -> io::Result<()> {
         delta::report(),
         dictionary::report(),
     ];
+    bitmap::report();
     let target = Path::new(env!("CARGO_MANIFEST_DIR")).join("../target");
     fs::create_dir_all(&target)?;
     let drawn: Vec<_> = drawn.into_iter().flatten().collect();

@@ -1,6 +1,6 @@
 //! A stream read run by run.
 
-use std::iter::FusedIterator;
+use core::iter::FusedIterator;
 
 use crate::ffi::next_run;
 use crate::Refusal;
@@ -26,6 +26,7 @@ pub enum Run<'a> {
 
 impl Run<'_> {
     /// How many entries the run has; of a packed run also those that pass n.
+    #[must_use]
     pub const fn length(&self) -> usize {
         match *self {
             Run::Repeated { length, .. } | Run::Packed { length, .. } => length,
@@ -114,6 +115,7 @@ pub fn next(
 /// # Ok::<(), cahermisk::Refusal>(())
 /// ```
 #[derive(Clone, Debug)]
+#[must_use = "iterators are lazy and do nothing unless consumed"]
 pub struct Runs<'a> {
     page: &'a [u8],
     width: u32,
@@ -137,11 +139,13 @@ impl<'a> Runs<'a> {
     }
 
     /// The place in the page after the last run given.
+    #[must_use]
     pub const fn place(&self) -> usize {
         self.at
     }
 
     /// How many entries the runs given have; the last packed run may have taken it past `n`.
+    #[must_use]
     pub const fn covered(&self) -> usize {
         self.covered
     }

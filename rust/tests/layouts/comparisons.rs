@@ -121,7 +121,7 @@ pub fn scans_at_random<L: Layout>() {
             page: &page,
             width,
             n,
-            op: random.below(if n.is_multiple_of(64) { 9 } else { 8 }) as u32,
+            op: random.below(if n % 64 == 0 { 9 } else { 8 }) as u32,
             a: random.pick(&constants),
             b: random.pick(&constants),
             bitmap: &bitmap,

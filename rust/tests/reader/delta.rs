@@ -42,11 +42,11 @@ fn header(page: &[u8], n: usize) -> Result<(Header, usize), u32> {
 /// Block size is a multiple of 128, from 128 to 16,384; the miniblock count is at least 1 and divides it; the
 /// quotient is a multiple of 32.
 fn well_shaped(block_size: u64, miniblocks: u64) -> bool {
-    block_size.is_multiple_of(128)
+    block_size % 128 == 0
         && (128..=16_384).contains(&block_size)
         && miniblocks >= 1
-        && block_size.is_multiple_of(miniblocks)
-        && (block_size / miniblocks).is_multiple_of(32)
+        && block_size % miniblocks == 0
+        && block_size / miniblocks % 32 == 0
 }
 
 /// The width bytes of a block, judged first to last (5 if missing, else 1 or 16): the widths of the needed

@@ -13,7 +13,7 @@ pub struct Dictionary {
 
 /// The values of a dictionary. 14: length no multiple of 4, over 65,536 bytes, or values not strictly ascending.
 fn values(dict: &[u8]) -> Result<Vec<i32>, u32> {
-    if !dict.len().is_multiple_of(4) || dict.len() > 65_536 {
+    if dict.len() % 4 != 0 || dict.len() > 65_536 {
         return Err(14);
     }
     let number = |four: &[u8]| {

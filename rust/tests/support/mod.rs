@@ -8,6 +8,7 @@ pub mod lent;
 pub mod random;
 pub mod row;
 pub mod spelling;
+mod units;
 pub mod vectors;
 
 /// Tests that a folder has over any layout, each over this one.

@@ -2,8 +2,6 @@
 
 use std::env;
 
-use crate::reader::Unit;
-
 const SEED_VARIABLE: &str = "CAHERMISK_SEED";
 const SEED: u64 = 0x5EED_CA4E_2026_0001;
 
@@ -60,9 +58,5 @@ impl Random {
 
     pub fn pick<T: Copy>(&mut self, from: &[T]) -> T {
         from[self.below(from.len())]
-    }
-
-    pub fn units<U: Unit>(&mut self, len: usize) -> Vec<U> {
-        (0..len).map(|_| U::of(self.bits())).collect()
     }
 }
