@@ -54,8 +54,8 @@ impl<T: Filled + Debug> Given<T> {
     }
 }
 
-/// The file of a layout in data/vectors, and those of other makers' pages that are named after it: others/NAME.txt,
-/// and others/NAME-WORDS.txt.
+/// The file of a layout in data/vectors, and those of other makers' pages that are named after it:
+/// others/NAME.txt and others/NAME-WORDS.txt.
 fn files_of(name: &str) -> Vec<String> {
     let mut files = vec![format!("{name}.txt")];
     let of_the_layout = |file: &String| {
@@ -96,8 +96,8 @@ pub fn call_every_row(
     calls.finish();
 }
 
-/// Makes the calls of a file and counts its rows. Lines that begin with # and empty lines are for the reader; each
-/// other line is a row.
+/// Makes the calls of a file and counts its rows. Lines that begin with # and empty lines are for the reader;
+/// each other line is a row.
 fn call_rows(
     calls: &mut Calls,
     file: &str,
