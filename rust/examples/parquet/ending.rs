@@ -1,4 +1,4 @@
-//! How both programs take their words and end.
+//! How both programs take their words, say numbers, and end.
 
 use std::io::{stdout, Write};
 use std::process::ExitCode;
@@ -29,4 +29,9 @@ fn print(text: &str) -> io::Result<()> {
 /// Whether the words ask how the program is used.
 pub fn ask_for_help(words: &[String]) -> bool {
     matches!(words, [word] if ["-h", "--help", "help"].contains(&word.as_str()))
+}
+
+/// A number of things: 1 page, 6 pages.
+pub fn counted(number: usize, one: &str, many: &str) -> String {
+    format!("{number} {}", if number == 1 { one } else { many })
 }

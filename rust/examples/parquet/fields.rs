@@ -44,6 +44,7 @@ pub mod page_header {
     pub const TYPE: i16 = 1;
     pub const UNCOMPRESSED_PAGE_SIZE: i16 = 2;
     pub const COMPRESSED_PAGE_SIZE: i16 = 3;
+    pub const CRC: i16 = 4;
     pub const DATA_PAGE_HEADER: i16 = 5;
     pub const DICTIONARY_PAGE_HEADER: i16 = 7;
     pub const DATA_PAGE_HEADER_V2: i16 = 8;

@@ -16,6 +16,7 @@ pub struct Made {
     pub repetition: i64,
     pub codec: i64,
     pub is_v2: bool,
+    pub checksum: Option<u32>,
     /// A field of each chunk that is a text, and makes it one that is not read.
     pub chunk_field: Option<i16>,
     /// What the footer says besides the rows that there are.
@@ -45,6 +46,7 @@ impl Made {
             repetition: REQUIRED,
             codec: UNCOMPRESSED,
             is_v2: false,
+            checksum: None,
             chunk_field: None,
             more_rows: 0,
             groups: vec![Group {
@@ -102,16 +104,10 @@ impl Made {
             let inner = Struct::default()
                 .i32(dictionary_page_header::NUM_VALUES, values.len() as i64 / 4)
                 .i32(dictionary_page_header::ENCODING, PLAIN);
-            lay(
-                bytes,
-                DICTIONARY_PAGE,
-                values,
-                page_header::DICTIONARY_PAGE_HEADER,
-                inner,
-            );
+            self.lay(bytes, DICTIONARY_PAGE, values, inner);
         }
         for (rows, encoding, page) in &group.pages {
-            self.lay_data(bytes, *rows, *encoding, page);
+            self.lay_data(bytes, *rows as i64, *encoding, page);
         }
         let meta_data = Struct::default()
             .i32s(column_meta_data::ENCODINGS, &[RLE])
@@ -128,15 +124,14 @@ impl Made {
         }
     }
 
-    fn lay_data(&self, bytes: &mut Vec<u8>, rows: usize, encoding: i64, page: &[u8]) {
-        let rows = rows as i64;
+    fn lay_data(&self, bytes: &mut Vec<u8>, rows: i64, encoding: i64, page: &[u8]) {
         if !self.is_v2 {
             let inner = Struct::default()
                 .i32(data_page_header::NUM_VALUES, rows)
                 .i32(data_page_header::ENCODING, encoding)
                 .i32(data_page_header::DEFINITION_LEVEL_ENCODING, RLE)
                 .i32(data_page_header::REPETITION_LEVEL_ENCODING, RLE);
-            return lay(bytes, DATA_PAGE, page, page_header::DATA_PAGE_HEADER, inner);
+            return self.lay(bytes, DATA_PAGE, page, inner);
         }
         // Levels that a required column does not need, but whose lengths are said.
         let page = [&[9, 9, 9], page].concat();
@@ -145,21 +140,23 @@ impl Made {
             .i32(data_page_header_v2::ENCODING, encoding)
             .i32(data_page_header_v2::DEFINITION_LEVELS_BYTE_LENGTH, 2)
             .i32(data_page_header_v2::REPETITION_LEVELS_BYTE_LENGTH, 1);
-        lay(
-            bytes,
-            DATA_PAGE_V2,
-            &page,
-            page_header::DATA_PAGE_HEADER_V2,
-            inner,
-        );
+        self.lay(bytes, DATA_PAGE_V2, &page, inner);
     }
-}
 
-fn lay(bytes: &mut Vec<u8>, kind: i64, page: &[u8], field: i16, inner: Struct) {
-    let header = Struct::default()
-        .i32(page_header::TYPE, kind)
-        .i32(page_header::COMPRESSED_PAGE_SIZE, page.len() as i64)
-        .inner(field, inner);
-    bytes.extend(header.end());
-    bytes.extend(page);
+    /// Lays a page with its header behind the bytes; `inner` is the header's part that goes by its kind.
+    fn lay(&self, bytes: &mut Vec<u8>, kind: i64, page: &[u8], inner: Struct) {
+        let field = match kind {
+            DICTIONARY_PAGE => page_header::DICTIONARY_PAGE_HEADER,
+            DATA_PAGE => page_header::DATA_PAGE_HEADER,
+            _ => page_header::DATA_PAGE_HEADER_V2,
+        };
+        let mut header = Struct::default()
+            .i32(page_header::TYPE, kind)
+            .i32(page_header::COMPRESSED_PAGE_SIZE, page.len() as i64);
+        if let Some(checksum) = self.checksum {
+            header = header.i32(page_header::CRC, (checksum as i32).into());
+        }
+        bytes.extend(header.inner(field, inner).end());
+        bytes.extend(page);
+    }
 }

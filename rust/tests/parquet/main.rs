@@ -3,7 +3,7 @@
 #[path = "../../examples/cut_parquet/cutting/mod.rs"]
 mod cut_parquet;
 #[path = "../../examples/parquet/mod.rs"]
-#[allow(dead_code, reason = "the programs' ending is for the examples alone")]
+#[allow(dead_code, reason = "how a program ends is for the examples alone")]
 mod parquet;
 #[path = "../../examples/write_parquet/writing/mod.rs"]
 mod write_parquet;

@@ -24,7 +24,7 @@ fn full_pages_are_asked_by_one_command() {
     let folder = folder("full");
     let lines = "\
 pages/c-001.horizontal: 16384 entries in 2048 bytes
-pages/c-002.horizontal: 5 entries in 1 bytes
+pages/c-002.horizontal: 5 entries in 1 byte
 16389 entries in 2 pages.
 Ask for instance:
   scan horizontal --width 1 --entries 16389 pages/c-???.horizontal equal 1
@@ -43,7 +43,7 @@ fn other_pages_are_asked_one_by_one() {
     let made = Made::of(INT32, RLE_DICTIONARY, &pages).with_dictionary(&[7]);
     let folder = folder("not-full");
     let lines = "\
-pages/c.dict: 1 values
+pages/c.dict: 1 value
 pages/c-001.idx: 3 entries in 2 bytes
 pages/c-002.idx: 2 entries in 2 bytes
 5 entries in 2 pages.

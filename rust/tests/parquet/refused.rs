@@ -108,13 +108,19 @@ fn pages_that_are_elsewhere_or_damaged() {
     does_not_fit(longer, "a page is not as long as its four length bytes say");
     let mut damaged = Made::delta().file();
     damaged[4] = 0xFF;
-    let why = cut_column(Cursor::new(damaged), "c")
-        .err()
-        .unwrap_or_default();
-    assert_eq!(
-        why,
-        "column c does not fit: a header of its pages is damaged"
-    );
+    let why = cut_column(Cursor::new(damaged), "c").err();
+    let told = "column c does not fit: a header of its pages is damaged";
+    assert_eq!(why.as_deref(), Some(told));
+}
+
+/// The checksum of the page of three entries is computed by another program.
+#[test]
+fn a_page_whose_checksum_is_another() {
+    let checked = |checksum| but(|made| made.checksum = Some(checksum));
+    let good = cut_column(Cursor::new(checked(0xDAFC_7AF3).file()), "c");
+    assert!(good.is_ok_and(|cut| cut.pages[0].judged == Ok(())));
+    let why = "a page is damaged: its checksum is not the one in its header";
+    does_not_fit(checked(0xDAFC_7AF2), why);
 }
 
 #[test]

@@ -72,7 +72,7 @@ const NOT_WRITTEN: [(&str, &[u8], usize, &str); 11] = [
         "delta",
         DELTA,
         16_385,
-        "16385 entries are 2 pages, and 1 are named",
+        "for 16385 entries name 2 pages, not 1",
     ),
     ("planes:4", DELTA, 3, "Parquet has no bit planes"),
     ("horizontal:7", DELTA, 3, NO_LAYOUT),
@@ -96,12 +96,7 @@ const NOT_WRITTEN: [(&str, &[u8], usize, &str); 11] = [
         3,
         "FILE is refused with code 7: unused bits not 0",
     ),
-    (
-        "dictionary",
-        &[1],
-        3,
-        "3 entries are 1 pages, and 0 are named",
-    ),
+    ("dictionary", &[1], 3, "for 3 entries name 1 page, not 0"),
 ];
 
 #[test]

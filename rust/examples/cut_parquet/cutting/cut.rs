@@ -80,7 +80,7 @@ fn chunk_pages<R: Read + Seek>(file: &mut File<R>, chunk: &Chunk) -> Result<Page
     }
     let bytes = file.part(chunk.at, chunk.length)?;
     let bytes = bytes.ok_or("the file ends before its pages do")?;
-    let pages = Pages::of(&bytes).ok_or("a header of its pages is damaged")?;
+    let pages = Pages::of(&bytes)?;
     let rows = pages
         .data
         .iter()

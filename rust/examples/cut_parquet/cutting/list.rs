@@ -6,21 +6,18 @@ use super::column::{Chunk, Column};
 use super::cut::{cut, Cut};
 use super::file::File;
 use super::footer::Footer;
+use crate::parquet::ending::counted;
 use crate::parquet::format::{name, CODECS, ENCODINGS, TYPES};
 
 const HEAD: [&str; 6] = ["column", "type", "encodings", "rows", "codec", "for scan"];
 
 pub fn list<R: Read + Seek>(file: &mut File<R>, footer: &Footer) -> String {
-    let (rows, groups) = (footer.rows, footer.row_groups);
-    let groups = if groups == 1 {
-        "1 row group".to_owned()
-    } else {
-        format!("{groups} row groups")
-    };
+    let rows = counted(footer.rows, "row", "rows");
+    let groups = counted(footer.row_groups, "row group", "row groups");
     let mut table = vec![HEAD.map(str::to_owned)];
     table.extend(footer.columns.iter().map(|column| row(file, column)));
     let head = format!(
-        "{rows} rows in {groups}, written by {}\n",
+        "{rows} in {groups}, written by {}\n",
         shown(&footer.created_by)
     );
     head + &lines(&table)

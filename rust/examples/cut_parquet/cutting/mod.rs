@@ -38,7 +38,9 @@ pub fn answer(words: &[String]) -> Result<String, String> {
             let cut = named(path, || cut_column(at(path)?, name))?;
             written::write(name, &cut, Path::new(folder))
         }
-        _ => Err(format!("the words are not as they should be\n{USAGE}")),
+        _ => Err(format!(
+            "name a file, and to cut a column also the column and a folder\n{USAGE}"
+        )),
     }
 }
 

@@ -7,6 +7,7 @@ use super::command::commands;
 use super::cut::Cut;
 use super::names::Names;
 use super::page_file::PageFile;
+use crate::parquet::ending::counted;
 use crate::parquet::layout::Layout;
 
 /// Writes the pages, and says what each is and how scan reads them.
@@ -16,7 +17,7 @@ pub fn write(column: &str, cut: &Cut, folder: &Path) -> Result<String, String> {
     names.alone_in_the_folder()?;
     let mut said = String::new();
     if let Some(values) = &cut.dictionary {
-        let what = format!("{} values", values.len() / 4);
+        let what = counted(values.len() / 4, "value", "values");
         said += &put(folder, &names.dictionary(), values, &what)?;
     }
     for (number, page) in (1..).zip(&cut.pages) {
@@ -36,22 +37,23 @@ fn put(folder: &Path, name: &str, bytes: &[u8], what: &str) -> Result<String, St
 
 /// What a page is, and what the library says of it.
 fn what(page: &PageFile) -> String {
-    let (entries, bytes) = (page.entries, page.bytes.len());
+    let entries = counted(page.entries, "entry", "entries");
     match page.judged {
-        Ok(()) => format!("{entries} entries in {bytes} bytes"),
-        Err(refusal) => {
-            let code = refusal.code();
-            format!("{entries} entries, refused with code {code}: {refusal}")
-        }
+        Ok(()) => format!(
+            "{entries} in {}",
+            counted(page.bytes.len(), "byte", "bytes")
+        ),
+        Err(refusal) => format!("{entries}, refused with code {}: {refusal}", refusal.code()),
     }
 }
 
 fn summary(cut: &Cut) -> String {
-    let entries: usize = cut.pages.iter().map(|page| page.entries).sum();
-    let pages = cut.pages.len();
+    let entries = cut.pages.iter().map(|page| page.entries).sum();
+    let entries = counted(entries, "entry", "entries");
+    let pages = counted(cut.pages.len(), "page", "pages");
     let unsigned = match cut.layout {
         Layout::Horizontal(32) => " They are compared as unsigned numbers: -1 is 4294967295.",
         _ => "",
     };
-    format!("{entries} entries in {pages} pages.{unsigned}\n")
+    format!("{entries} in {pages}.{unsigned}\n")
 }

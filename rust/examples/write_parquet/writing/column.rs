@@ -4,6 +4,7 @@ use cahermisk::{horizontal, runs, MAX_DICTIONARY_BYTES, MAX_ENTRIES};
 
 use super::pages::{pages, read, rows_of, told, with_length, Page};
 use super::question::Asked;
+use crate::parquet::ending::counted;
 use crate::parquet::format::{name, ENCODINGS, TYPES};
 use crate::parquet::layout::Layout;
 
@@ -46,11 +47,8 @@ impl Column {
     /// What the column is, in a line.
     pub fn line(&self) -> String {
         let (kind, encoding) = (name(&TYPES, self.kind), name(&ENCODINGS, self.encoding));
-        format!(
-            "{}: {kind} in {encoding}, {} pages\n",
-            self.name,
-            self.pages.len()
-        )
+        let pages = counted(self.pages.len(), "page", "pages");
+        format!("{}: {kind} in {encoding}, {pages}\n", self.name)
     }
 }
 
@@ -109,9 +107,9 @@ fn bitmap(files: &[String], entries: usize) -> Made {
     };
     let bytes = read(file)?;
     if bytes.len() != entries.div_ceil(8) {
+        let has = counted(bytes.len(), "byte", "bytes");
         return Err(format!(
-            "{file} is no bitmap of {entries} entries: it has {} bytes",
-            bytes.len()
+            "{file} is no bitmap of {entries} entries: it has {has}"
         ));
     }
     let page = |(bytes, rows): (&[u8], usize)| {

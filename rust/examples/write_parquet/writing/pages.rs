@@ -4,6 +4,8 @@ use std::fs;
 
 use cahermisk::{Refusal, MAX_ENTRIES};
 
+use crate::parquet::ending::counted;
+
 /// A data page: its rows, and the bytes of their entries as Parquet has them.
 pub struct Page {
     pub rows: usize,
@@ -18,10 +20,8 @@ pub fn pages(
 ) -> Result<Vec<Page>, String> {
     let needed = entries.div_ceil(MAX_ENTRIES);
     if files.len() != needed {
-        return Err(format!(
-            "{entries} entries are {needed} pages, and {} are named",
-            files.len()
-        ));
+        let (needed, named) = (counted(needed, "page", "pages"), files.len());
+        return Err(format!("for {entries} entries name {needed}, not {named}"));
     }
     let made = files.iter().zip(rows_of(entries)).map(|(file, rows)| {
         let bytes = page(read(file)?, rows).map_err(|refusal| told(file, refusal))?;
