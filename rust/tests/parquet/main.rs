@@ -9,6 +9,7 @@ mod parquet;
 mod write_parquet;
 
 mod becomes;
+mod cited;
 mod damage;
 mod day;
 mod made;
