@@ -68,3 +68,8 @@ impl Layout {
         }
     }
 }
+
+/// A refusal with its code.
+pub fn coded(refusal: Refusal) -> String {
+    format!("code {}: {refusal}", refusal.code())
+}

@@ -76,12 +76,11 @@ fn booleans_in_each_encoding() {
 fn row_groups_go_on_with_one_dictionary() {
     let mut made = Made::of(INT32, RLE_DICTIONARY, &[(3, &[0, 6])]).with_dictionary(&[7]);
     let more = Group {
-        pages: vec![(2, PLAIN_DICTIONARY, vec![0, 4])],
+        pages: vec![(2, RLE_DICTIONARY, vec![0, 4])],
         ..made.groups[0].clone()
     };
     made.groups.push(Group::default());
     made.groups.push(more);
-    made.groups[2].pages[0].1 = RLE_DICTIONARY;
     let cut = cut(&made);
     let entries: Vec<usize> = cut.pages.iter().map(|page| page.entries).collect();
     assert_eq!(

@@ -8,6 +8,7 @@ use super::file::File;
 use super::footer::Footer;
 use crate::parquet::ending::counted;
 use crate::parquet::format::{name, CODECS, ENCODINGS, TYPES};
+use crate::parquet::layout::coded;
 
 const HEAD: [&str; 6] = ["column", "type", "encodings", "rows", "codec", "for scan"];
 
@@ -68,9 +69,9 @@ fn reads(cut: &Cut) -> String {
     }
     let mut refusals = cut.pages.iter().filter_map(|page| page.judged.err());
     if let Some(first) = refusals.next() {
-        let (refused, pages, code) = (1 + refusals.count(), cut.pages.len(), first.code());
-        said +=
-            &format!("; {refused} of {pages} pages refused, the first with code {code}: {first}");
+        let (refused, pages) = (1 + refusals.count(), cut.pages.len());
+        let first = coded(first);
+        said += &format!("; {refused} of {pages} pages refused, the first with {first}");
     }
     said
 }
