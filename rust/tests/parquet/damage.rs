@@ -1,12 +1,14 @@
 //! Damaged files: whatever their bytes are, each column is cut or a sentence says why not.
 
 use std::io::Cursor;
+use std::ops::Range;
 
 use cahermisk::MAX_ENTRIES;
 
 use crate::cut_parquet::cut::cut;
 use crate::cut_parquet::{list, opened};
 use crate::made::Made;
+use crate::parquet::format::{INT32, RLE_DICTIONARY, TAIL};
 use crate::places::{bytes, top};
 
 /// Lists and cuts all that there is: how many columns fit.
@@ -54,7 +56,8 @@ fn changes(file: &[u8], places: impl Iterator<Item = usize>) -> usize {
 
 #[test]
 fn a_small_file_with_every_byte_changed_and_every_length() {
-    let dictionary = Made::of(1, 8, &[(3, &[0, 6]), (2, &[0, 4])]).with_dictionary(&[7]);
+    let dictionary =
+        Made::of(INT32, RLE_DICTIONARY, &[(3, &[0, 6]), (2, &[0, 4])]).with_dictionary(&[7]);
     for made in [Made::delta(), dictionary] {
         let file = made.file();
         assert_eq!(read_all(&file), 1);
@@ -72,11 +75,26 @@ fn the_sample_file_changed_and_cut_off() {
     for length in (0..file.len()).step_by(97) {
         assert_eq!(read_all(&file[..length]), 0, "cut to {length} bytes");
     }
-    // All of the footer, and of the pages, which have about 20 bytes of header each, some places.
-    let footer = file.len() - 300..file.len();
-    assert!(changes(&file, footer) > 0);
+    // All of the footer, all of the landing's small pages with their headers, and of the rest some places.
+    assert!(changes(&file, footer_of(&file)..file.len()) > 0);
+    assert!(changes(&file, pages_of(&file, "landing")) > 0);
     assert!(changes(&file, (0..file.len()).step_by(641)) > 0);
-    assert!(changes(&file, 46_761..46_850) > 0);
+}
+
+/// Where the footer begins.
+fn footer_of(file: &[u8]) -> usize {
+    let (rest, tail) = file.split_at(file.len() - TAIL);
+    let length = tail.first_chunk().map(|length| u32::from_le_bytes(*length));
+    rest.len() - length.expect("a length") as usize
+}
+
+/// The places of a column's pages in a file of one row group.
+fn pages_of(file: &[u8], column: &str) -> Range<usize> {
+    let (_, footer) = opened(Cursor::new(file)).expect("a good file");
+    let column = footer.column(column).expect("a column");
+    let chunk = column.chunks[0].as_ref().expect("a chunk");
+    let at = chunk.at as usize;
+    at..at + chunk.length
 }
 
 /// Nothing but a beginning and an end, and between them any bytes.
