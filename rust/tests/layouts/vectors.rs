@@ -1,4 +1,4 @@
-//! The calls of data/vectors: document 01's examples, and its easy errors.
+//! The calls of data/vectors: document 01's examples, its easy errors, and other makers' pages.
 
 use super::layout::Layout;
 use crate::reader::calls::{Pack, Scan, Unpack};

@@ -1,4 +1,4 @@
-//! The calls of data/vectors: document 01's examples, Parquet's, and easy errors.
+//! The calls of data/vectors: document 01's examples, Parquet's, easy errors, and other makers' pages.
 
 use super::layout::Signed;
 use crate::reader::signed::{Scan, Unpack};
