@@ -83,7 +83,11 @@ fn of_layout(layout: u32, asked: Asked, words: &[usize]) {
         return;
     }
     let before = before_comparison(m, comparison.words, words);
-    split(question(layout, asked, comparison), asked, &words[0..before]);
+    split(
+        question(layout, asked, comparison),
+        asked,
+        &words[0..before],
+    );
 }
 
 fn one_less(words: usize) -> usize {
@@ -277,7 +281,14 @@ fn page_answered(
         };
     }
     let first = from as usize + start;
-    let after = page_passed(passed, first, first + n, &bitmap[place..], selected, answered);
+    let after = page_passed(
+        passed,
+        first,
+        first + n,
+        &bitmap[place..],
+        selected,
+        answered,
+    );
     SoFar {
         passed: after,
         is_listing: so_far.is_listing && listed(&bitmap[place..], start, start + n),

@@ -1,6 +1,6 @@
 // The answer told: a sentence, and a strip for each day.
-use lines::Line;
 use libc::STDERR_FILENO;
+use lines::Line;
 use scan_day::passing::CELLS;
 use scan_day::passing::DAYS;
 use scan_day::passing::Passed;
@@ -9,8 +9,8 @@ use scan_says::Sentence;
 use scan_says::tell;
 use words::counts::min;
 
-// Where a column stands: the number of its first day, and its seconds counted from that day's beginning; as far
-// as `shown` pages are named.
+// Where a column stands: the number of its first day, and its seconds counted from that day's beginning. Pages
+// are named for those before `shown`.
 pub struct Span {
     pub day: u32,
     pub from: usize,
@@ -29,8 +29,9 @@ pub fn drawn(span: Span, passed: Passed, answered: &[u32; CELLS], selected: &[u3
         .words(b"00 01 02 03 04 05 06 07 08 09 10 11 12 13 14 15 16 17 18 19 20 21 22 23")
         .end();
     let are_drawn = strips(span, answered, selected);
-    let last = line
-        .words(b"20 minutes each: blank none, . : + by thirds, # all, ? not answered, - no entry")
+    let last = line.words(
+            b"20 minutes each: blank none, . : + by thirds, # all, ? not answered, - no entry",
+        )
         .end();
     if last.lost || !are_drawn {
         tell(Sentence::Unwritten);

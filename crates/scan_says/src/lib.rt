@@ -3,14 +3,10 @@
 ghost use mathlib.Core.Path.{_≡_};
 ghost use mathlib.Core.Bool.{false};
 ghost use Prim.Native.Nat.{_≤_};
-mod meanings;
-mod usage;
-
 use check::same;
 use libc::STDERR_FILENO;
 use libc::STDOUT_FILENO;
 use lines::Line;
-use meanings::meaning;
 use scan_day::clocks::clock;
 use scan_day::seconds;
 use scan_words::names::BITMAP;
@@ -88,17 +84,17 @@ pub fn tell(sentence: Sentence) -> bool
     match sentence {
         Sentence::Unwritten => os::fail(b"scan: standard output cannot be written"),
         Sentence::Usage => {
-            usage::all(STDERR_FILENO);
+            usage(STDERR_FILENO);
         }
         Sentence::ManyWords => say(b"scan: at most 1023 words are taken after the program's name."),
         Sentence::LongWord(at) => long_word(at),
         Sentence::NoLayout => {
             say(b"scan: no layout: the first word is one of these.");
-            usage::layouts(STDERR_FILENO);
+            layouts(STDERR_FILENO);
         }
         Sentence::WrongLayout(at) => {
             about(at, b" is no layout: the first word is one of these.");
-            usage::layouts(STDERR_FILENO);
+            layouts(STDERR_FILENO);
         }
         _ => tell_of_options(sentence),
     }
@@ -119,7 +115,7 @@ pub fn failed(what: &[u8]) -> bool
 pub fn help() -> bool
     ensures { λ r. ⌜ r ≡ false ⌝ }
 {
-    if usage::all(STDOUT_FILENO) {
+    if usage(STDOUT_FILENO) {
         return false;
     }
     tell(Sentence::Unwritten)
@@ -139,9 +135,12 @@ fn tell_of_options(sentence: Sentence) {
     match sentence {
         Sentence::UnknownOption(at) => {
             about(at, b" is no option: these are.");
-            usage::options(STDERR_FILENO);
+            options(STDERR_FILENO);
         }
-        Sentence::Twice(at) => about(at, b": this option was given before: leave one of them out."),
+        Sentence::Twice(at) => about(
+            at,
+            b": this option was given before: leave one of them out.",
+        ),
         Sentence::Takes(at, option) => takes(at, option),
         Sentence::TwoCounts => say(
             b"scan: --entries and --last both say how many entries there are: leave one of them out.",
@@ -160,7 +159,7 @@ fn tell_of_comparison(sentence: Sentence) {
     match sentence {
         Sentence::NoComparison => {
             say(b"scan: name the page files and then the comparison, as in: between 110 420");
-            usage::operators(STDERR_FILENO);
+            operators(STDERR_FILENO);
         }
         Sentence::WrongOperator(at) => about_operator(
             at,
@@ -221,7 +220,16 @@ fn about(at: usize, words: &[u8]) {
 
 fn about_operator(at: usize, words: &[u8]) {
     about(at, words);
-    usage::operators(STDERR_FILENO);
+    operators(STDERR_FILENO);
+}
+
+// Which of the words that were typed stands at a place, the first being 1.
+fn typed_as(at: usize) -> usize {
+    let first = first_word();
+    if at < first {
+        return 0;
+    }
+    at - first + 1
 }
 
 // Which word it is, by its beginning and its place.
@@ -231,7 +239,7 @@ fn long_word(at: usize) {
     io::write_all(STDERR_FILENO, &word[0..40]);
     Line::new()
         .words(b"..: word ")
-        .number(at as u64)
+        .number(typed_as(at) as u64)
         .words(b" is too long: a word has at most 4096 bytes.")
         .write(STDERR_FILENO);
 }
@@ -245,7 +253,9 @@ fn takes(at: usize, option: u32) {
     }
     match option {
         WIDTH => say(b": --width takes a whole number from 0 to 32."),
-        ENTRIES => say(b": --entries takes a whole number from 0 to 16777216, which is 1024 full pages."),
+        ENTRIES => say(
+            b": --entries takes a whole number from 0 to 16777216, which is 1024 full pages.",
+        ),
         LAST => say(b": --last takes a whole number from 0 to 16384, the entries of a full page."),
         BITMAP => say(b": --bitmap takes the name of a file."),
         NUMBERS => say(b": --numbers takes nothing behind it."),
@@ -301,4 +311,94 @@ fn missing(day: u32, second: usize) {
     clock(line, day, second)
         .words(b" on: they are not in the answer.")
         .write(STDERR_FILENO);
+}
+
+// What a code means: of the arguments, of a page or its runs, of a layout's own.
+fn meaning(code: u32) {
+    match code {
+        1 => say(b"width above 32"),
+        2 => say(b"more than 16,384 entries"),
+        3 => say(b"operator above 7"),
+        4 => say(b"output too short"),
+        5 => say(b"the page ends too early"),
+        6 => say(b"bytes of the page are left over"),
+        _ => page_meaning(code),
+    }
+}
+
+fn page_meaning(code: u32) {
+    match code {
+        7 => say(b"unused bits not 0"),
+        8 => say(b"run value not below 2^width"),
+        9 => say(b"variable-length number beyond 32 bits"),
+        10 => say(b"run of length 0"),
+        11 => say(b"run goes too far past the page's entries"),
+        _ => layout_meaning(code),
+    }
+}
+
+fn layout_meaning(code: u32) {
+    match code {
+        12 => say(b"delta shape: block size or miniblock count not as allowed"),
+        13 => say(b"delta count is not the entries asked of this page"),
+        14 => say(
+            b"dictionary: length no multiple of 4, over 65,536 bytes, or values not strictly ascending",
+        ),
+        15 => say(b"index not below the dictionary's count"),
+        16 => say(b"width byte of an unneeded miniblock not 0"),
+        _ => say(b"a code without a meaning here"),
+    }
+}
+
+// How the program is used, and parts of it; each answers whether it was written.
+fn usage(fd: i32) -> bool {
+    let is_begun = io::write_all(
+        fd,
+        b"usage: scan LAYOUT [OPTION...] PAGE... OPERATOR CONSTANT [CONSTANT]\n\
+        Says which seconds of a column satisfy a comparison, and draws each day. As in\n\
+        \x20 scan delta level-*.delta between 110 420\n\
+        \x20 scan dictionary landing.dict landing-*.idx equal 4\n\
+        \x20 scan runs --width 3 calls-*.runs at-least 1\n",
+    );
+    is_begun && layouts(fd) && operators(fd) && options(fd) && status(fd)
+}
+
+fn layouts(fd: i32) -> bool {
+    io::write_all(
+        fd,
+        b"Layouts: horizontal, planes, runs (these need --width), delta, dictionary (its\n\
+        \x20 first file is the dictionary).\n",
+    )
+}
+
+fn operators(fd: i32) -> bool {
+    io::write_all(
+        fd,
+        b"Operators: equal, not-equal, less, at-most, greater, at-least with one constant,\n\
+        \x20 between, not-between with two; or their numbers, 0 to 7.\n",
+    )
+}
+
+fn options(fd: i32) -> bool {
+    io::write_all(
+        fd,
+        b"Options, anywhere before -- if it is there, and as --width N or --width=N:\n\
+        \x20 --width N         bits of an entry, 0 to 32\n\
+        \x20 --entries N       entries of the whole column, 86400 if not given; a page has 16384\n\
+        \x20 --last N          entries of the last page instead; all others have 16384\n\
+        \x20 --start HH:MM:SS  the time of the first second, 00:00:00 if not given\n\
+        \x20 --day N           its day, 1 if not given\n\
+        \x20 --bitmap FILE     writes the bitmap of all pages there\n\
+        \x20 --numbers         the numbers of the selected seconds instead of the picture\n\
+        \x20 --help, -h        this text\n\
+        \x20 --version         the program's version\n",
+    )
+}
+
+fn status(fd: i32) -> bool {
+    io::write_all(
+        fd,
+        b"The program itself always ends with status 0. Installed, or run by tools/run-program,\n\
+        it ends with 1 where it told of a refusal or an error.\n",
+    )
 }

@@ -68,8 +68,3 @@ impl Layout {
         }
     }
 }
-
-/// A refusal with its code.
-pub fn coded(refusal: Refusal) -> String {
-    format!("code {}: {refusal}", refusal.code())
-}

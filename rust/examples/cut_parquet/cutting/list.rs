@@ -8,7 +8,6 @@ use super::file::File;
 use super::footer::Footer;
 use crate::parquet::ending::counted;
 use crate::parquet::format::{name, CODECS, ENCODINGS, TYPES};
-use crate::parquet::layout::coded;
 
 const HEAD: [&str; 6] = ["column", "type", "encodings", "rows", "codec", "for scan"];
 
@@ -70,7 +69,6 @@ fn reads(cut: &Cut) -> String {
     let mut refusals = cut.pages.iter().filter_map(|page| page.judged.err());
     if let Some(first) = refusals.next() {
         let (refused, pages) = (1 + refusals.count(), cut.pages.len());
-        let first = coded(first);
         said += &format!("; {refused} of {pages} pages refused, the first with {first}");
     }
     said

@@ -8,7 +8,7 @@ use super::cut::Cut;
 use super::names::Names;
 use super::page_file::PageFile;
 use crate::parquet::ending::counted;
-use crate::parquet::layout::{coded, Layout};
+use crate::parquet::layout::Layout;
 
 /// Writes the pages, and says what each is and how scan reads them.
 pub fn write(column: &str, cut: &Cut, folder: &Path) -> Result<String, String> {
@@ -43,7 +43,7 @@ fn what(page: &PageFile) -> String {
             "{entries} in {}",
             counted(page.bytes.len(), "byte", "bytes")
         ),
-        Err(refusal) => format!("{entries}, refused with {}", coded(refusal)),
+        Err(refusal) => format!("{entries}, refused with {refusal}"),
     }
 }
 

@@ -5,7 +5,6 @@ use std::fs;
 use cahermisk::{Refusal, MAX_ENTRIES};
 
 use crate::parquet::ending::counted;
-use crate::parquet::layout::coded;
 
 /// A data page: its rows, and the bytes of their entries as Parquet has them.
 pub struct Page {
@@ -49,5 +48,5 @@ pub fn read(file: &str) -> Result<Vec<u8>, String> {
 
 /// What the library says of a file.
 pub fn told(file: &str, refusal: Refusal) -> String {
-    format!("{file} is refused with {}", coded(refusal))
+    format!("{file} is refused with {refusal}")
 }

@@ -27,7 +27,8 @@ mul-result : tie.Need-mul-result
 mul-result c =
     let k = within-limits _ _ (none c) in
     let a = c .before .before .args in
-    omega (arith, mul-le-mul {n₁ = (a .n + 7) / 8} {m₁ = a .width + 1} {n₂ = 2048} {m₂ = 33} (omega arith) (omega arith))
+    omega
+    (arith, mul-le-mul {n₁ = (a .n + 7) / 8} {m₁ = a .width + 1} {n₂ = 2048} {m₂ = 33} (omega arith) (omega arith))
 
 returns-2 : tie.Need-returns-2
 returns-2 c = sym (within _ _ (none c))

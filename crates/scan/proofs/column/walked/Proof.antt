@@ -11,7 +11,8 @@ Inv-loop q from entries dictionary files bitmap₀ selected₀ answered₀ so-fa
     (length files < 18446744073709551616) × (length bitmap ≡ length bitmap₀)
 
 abbrev μ-loop : tie.MeasureT-loop
-μ-loop q from entries dictionary files bitmap₀ selected₀ answered₀ so-far₀ k₀ bitmap selected answered so-far k = length files - k
+μ-loop q from entries dictionary files bitmap₀ selected₀ answered₀ so-far₀ k₀ bitmap selected answered so-far k =
+    length files - k
 
 pub walked-spec : {M : Type 1} → statement M
 walked-spec =

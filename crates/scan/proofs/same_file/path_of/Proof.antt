@@ -19,10 +19,12 @@ cast-link-of : tie.Need-cast-link-of
 cast-link-of c =
     let s = c .before .before in
     let back = toZ-ofZ w32 (s .args .fd) (s .fits .fd) in
-    rw back
-    (above (s .args .fd) (rw back at (c .if1 .taken)), record {
-      fits = lt-of-le-of-lt (natAbs-le (s .args .fd) (s .fits .fd .sfits)) (lit< tt);
-    })
+    rw back (
+      above (s .args .fd) (rw back at (c .if1 .taken)),
+      record {
+        fits = lt-of-le-of-lt (natAbs-le (s .args .fd) (s .fits .fd .sfits)) (lit< tt);
+      },
+    )
 
 pub path-of-spec : {M : Type 1} → statement M
 path-of-spec =

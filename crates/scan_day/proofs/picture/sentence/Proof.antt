@@ -28,7 +28,8 @@ returns-3 c =
     let e = c .before .before .before .before .before .before .before .before .before .before .before in
     let a = e .before .before .before .before .args in
     rw (ne-eqb (a .passed .read) 0 (e .before .before .if1 .left), ne-eqb (a .passed .count) 0 (e .if2 .left))
-    (seven-pieces (decimal (a .passed .count)) (ascii " of ") (decimal (a .passed .read)) (ascii " seconds selected, the first at ")
+    (seven-pieces (decimal (a .passed .count)) (ascii " of ") (decimal (a .passed .read))
+    (ascii " seconds selected, the first at ")
     (clockTime (a .day) (a .passed .first)) (ascii ", the last at ") (clockTime (a .day) (a .passed .last))
     (c .before .before .before .before .before .before .before .before .before .before .new3 .ensures)
     (c .before .before .before .before .before .before .before .before .before .number2 .ensures)

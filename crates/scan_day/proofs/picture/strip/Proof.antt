@@ -42,9 +42,10 @@ unfolding stripOf
 returns c =
     let l = c .before in
     let a = l .before .before .args in
+    let f = cellAt (a .day) (a .from) (a .end) (a .answered .now) (a .selected .now) in
     let all : l .loop .c ≡ 72 = omega arith in
     l .loop .inv .1
-    ∙ ap (λ (n : ℕ). laid [] (tabulate n (cellAt (a .day) (a .from) (a .end) (a .answered .now) (a .selected .now)))) all
+    ∙ ap (λ (n : ℕ). laid [] (tabulate n f)) all
 
 pub strip-spec : {M : Type 1} → statement M
 strip-spec =

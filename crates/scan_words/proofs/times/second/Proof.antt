@@ -37,4 +37,8 @@ returns-4 c =
     )
 
 pub second-spec : {M : Type 1} → statement M
-second-spec = tie.close (tie.spec returns returns-2 returns-3 (λ c. search needs) (λ c. search needs) (λ c. search needs) (λ c. search needs) (λ c. search needs) returns-4)
+second-spec =
+    tie.close
+    (tie.spec
+    returns returns-2 returns-3 (λ c. search needs) (λ c. search needs) (λ c. search needs)
+    (λ c. search needs) (λ c. search needs) returns-4)
