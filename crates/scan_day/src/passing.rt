@@ -12,7 +12,7 @@ pub const CELL: usize = 1200;
 
 pub const DAY_CELLS: usize = 72;
 
-// 1,023 pages, which are as many as can be named, lie on at most 195 days.
+// Fewer than 1,024 pages can be named: they lie on at most 195 days.
 pub const DAYS: usize = 195;
 
 pub const CELLS: usize = 14040;

@@ -119,10 +119,10 @@ pub fn sorted_out(words: &mut [usize]) -> Asked
 {
     let all = os::arg_count();
     let mut asked = Asked::new();
-    if MOST < all {
+    let mut at = first_word();
+    if MOST - 1 + at < all {
         return asked.spoiled(Sentence::ManyWords);
     }
-    let mut at = first_word();
     while at < all {
         asked = argument(asked, at, words);
         at += 1;

@@ -173,7 +173,7 @@ fn tell_of_comparison(sentence: Sentence) {
         Sentence::TwoConstants(at) => about_operator(at, b" takes two constants: add the other."),
         Sentence::NoConstant(at) => about(
             at,
-            b" is no number: a constant is a whole number of at most 64 bits, as -40 or 420.",
+            b" is no constant: that is a whole number from -9223372036854775808 to 9223372036854775807.",
         ),
         _ => tell_of_pages(sentence),
     }
