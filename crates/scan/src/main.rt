@@ -1,4 +1,5 @@
 // The program `scan`: which seconds of a column satisfy a comparison, and where in its days they lie.
+mod asking;
 mod column;
 mod keeping;
 mod listing;
@@ -22,7 +23,7 @@ fn main() {
     }
     let plea = asked_instead(first);
     match plea {
-        NOTHING => column::asked(),
+        NOTHING => asking::asked(),
         VERSION => {
             version();
         }
