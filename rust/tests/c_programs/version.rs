@@ -32,7 +32,11 @@ fn the_program_says_that_version() {
     let said: Vec<_> = texts
         .filter(|text| text.starts_with(|c: char| c.is_ascii_digit()))
         .collect();
-    assert_eq!(said, [format!("{VERSION}\\n")], "crates/scan_says/src/lib.rt");
+    assert_eq!(
+        said,
+        [format!("{VERSION}\\n")],
+        "crates/scan_says/src/lib.rt"
+    );
 }
 
 #[test]
