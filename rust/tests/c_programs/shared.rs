@@ -70,7 +70,7 @@ fn listed(which: &str) -> BTreeSet<String> {
     nm.args(["-D", which]).arg(folder().join("libcahermisk.so"));
     let output = run(&mut nm, "this test needs nm, of binutils, on PATH");
     let text = String::from_utf8(output.stdout).expect("nm prints text");
-    let names = text.lines().filter_map(|line| line.split(' ').last());
+    let names = text.lines().filter_map(|line| line.split(' ').next_back());
     names.map(str::to_owned).collect()
 }
 
