@@ -119,7 +119,7 @@ fn split(q: Question, asked: Asked, words: &[usize]) {
         tell(Sentence::ManyPages(entries as usize, last - first));
         return;
     }
-    if keeping::is_read(asked, words) {
+    if keeping::is_named(asked, words) {
         return;
     }
     with_dictionary(q, asked, entries, place(words, 0), &words[first..]);
@@ -133,9 +133,10 @@ fn column_entries(asked: Asked, before: usize) -> u32 {
     asked.entries
 }
 
+// The first word names the dictionary, or a page as the others do.
 fn with_dictionary(q: Question, asked: Asked, entries: u32, at: usize, files: &[usize]) {
     if q.layout != DICTIONARY {
-        answered(q, asked, entries, &[], files);
+        answered(q, asked, entries, at, &[], files);
         return;
     }
     let mut dictionary = [0u8; VALUES];
@@ -151,5 +152,5 @@ fn with_dictionary(q: Question, asked: Asked, entries: u32, at: usize, files: &[
         tell(Sentence::NoDictionary);
         return;
     }
-    answered(q, asked, entries, &dictionary[..n], files);
+    answered(q, asked, entries, at, &dictionary[..n], files);
 }

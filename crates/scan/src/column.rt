@@ -28,7 +28,14 @@ fn room() -> [u8; BITMAP]
 }
 
 // All pages answered, their bitmap kept, and the answer told.
-pub fn answered(q: Question, asked: Asked, entries: u32, dictionary: &[u8], files: &[usize]) {
+pub fn answered(
+    q: Question,
+    asked: Asked,
+    entries: u32,
+    first: usize,
+    dictionary: &[u8],
+    files: &[usize],
+) {
     let mut selected = [0u32; CELLS];
     let mut answered = [0u32; CELLS];
     let mut bitmap = room();
@@ -48,7 +55,7 @@ pub fn answered(q: Question, asked: Asked, entries: u32, dictionary: &[u8], file
         &mut answered,
     );
     let passed = after.passed;
-    keeping::kept(asked, entries as usize, files.len(), &bitmap);
+    keeping::kept(asked, entries as usize, first, files, &bitmap);
     let span = span(asked, entries, files.len());
     if asked.numbers {
         telling::summed_up(span, passed);

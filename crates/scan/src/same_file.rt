@@ -1,37 +1,30 @@
-// Do two names stand for one file.
+// Whether a name stands for an open file: by the path that the system has for it.
 ghost use Rattle.io.specs.Counts.{Counts};
 ghost use Rattle.libc.specs.Io.{Ended};
 use check::same;
 
-// By the names, or by the paths that the system has for the files. A file to be written is opened for both,
-// which waits for nobody where it is a pipe.
-pub fn is_same(name: &[u8], at: usize) -> bool {
+// Has the file that a word names this path.
+pub fn has_path(path: &[u8], at: usize) -> bool {
     let mut word = io::buffer();
     let n = os::arg(at, &mut word);
-    if same(name, &word[..n]) {
-        return true;
-    }
-    let own = os::open_update(name);
-    if own < 0 {
-        return false;
-    }
-    let other = os::open_read(&word[..n]);
-    let is_one = have_one_path(own, other);
-    libc::close(own);
-    libc::close(other);
-    is_one
+    let fd = opened_again(&word[..n]);
+    let mut own = io::buffer();
+    let k = path_of(fd, &mut own);
+    libc::close(fd);
+    same(path, &own[..k])
 }
 
-fn have_one_path(own: i32, other: i32) -> bool {
-    let mut path = io::buffer();
-    let n = path_of(own, &mut path);
-    let mut others = io::buffer();
-    let k = path_of(other, &mut others);
-    0 < n && same(&path[..n], &others[..k])
+// For both, which waits for nobody where it is a pipe; only for reading where it may not be written.
+fn opened_again(name: &[u8]) -> i32 {
+    let fd = os::open_update(name);
+    if fd < 0 {
+        return os::open_read(name);
+    }
+    fd
 }
 
 // The path of an open file, and its length: 0 where there is none.
-fn path_of(fd: i32, places: &mut [u8]) -> usize
+pub fn path_of(fd: i32, places: &mut [u8]) -> usize
     ensures { λ r. ⌜ Counts r (now (places .exit)) ⌝ }
 {
     if fd > 0 {
