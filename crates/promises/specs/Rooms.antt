@@ -48,6 +48,14 @@ fits-in L W xs k before contract kept fit room =
     let ok = pack-accepted L W xs k before contract .1 (kept, (fit, room)) in
     (ok, pack L W xs k before contract .accepts ok .number-is ∙ W .length-packed k xs)
 
+-- where the room is the page's length, the list fills it
+fills : {K A : Type 0} (L : Layout K A) (W : Writer L) (xs : List A) (k : K) (before : List ℕ) {after : List ℕ}
+    {r : Answer} {room : ℕ} → outcome r after ≡ packs L W xs k before
+    → L .Kept k (length xs) → W .Fit k xs → room ≡ W .places k xs → room ≤ length before
+    → (r .code ≡ 0) × (r .number ≡ room)
+fills L W xs k before contract kept fit size lent =
+    let packed = fits-in L W xs k before contract kept fit (rw size at lent) in (packed .0, packed .1 ∙ sym size)
+
 -- what is asked for of a column within its limits
 unsigned-room : (w n places : ℕ) → w ≤ 32 → n ≤ 16384 → unless (limitFault w n) places ≡ places
 unsigned-room w n places narrow few = within (limitFault w n) places (limits-kept w n .1 (narrow, few))
@@ -62,11 +70,8 @@ pub horizontal-fills : EveryHorizontalPack (λ κs a r e. a .1 .0 ≤ 32 → len
     → (r .code ≡ 0) × (r .number ≡ room)))
 unfolding Horizontal.pack
 horizontal-fills κs a r e contract narrow few small κs′ a′ room e′ given width n lent =
-    let size : room ≡ Horizontal.pageBytes (a .1 .0) (length (now (a .0))) =
-    given ∙ rw (width, n) (unsigned-room _ _ _ narrow few) in
-    let packed = fits-in horizontal Horizontals.writer (now (a .0)) (a .1 .0) (now (a .1 .1 .0)) contract
-    (narrow, few) small (rw size at lent) in
-    (packed .0, packed .1 ∙ sym size)
+    fills horizontal Horizontals.writer (now (a .0)) (a .1 .0) (now (a .1 .1 .0)) contract (narrow, few) small
+    (given ∙ rw (width, n) (unsigned-room _ _ _ narrow few)) lent
 
 pub vertical-fills : EveryVerticalPack (λ κs a r e. a .1 .0 ≤ 32 → length (now (a .0)) ≤ 16384
     → Small (a .1 .0) (now (a .0)) → EveryVerticalWords (λ κs′ a′ room e′.
@@ -74,11 +79,8 @@ pub vertical-fills : EveryVerticalPack (λ κs a r e. a .1 .0 ≤ 32 → length 
     → (r .code ≡ 0) × (r .number ≡ room)))
 unfolding Vertical.pack
 vertical-fills κs a r e contract narrow few small κs′ a′ room e′ given width n lent =
-    let size : room ≡ Vertical.pageWords (a .1 .0) (length (now (a .0))) =
-    given ∙ rw (width, n) (unsigned-room _ _ _ narrow few) in
-    let packed = fits-in vertical Verticals.writer (now (a .0)) (a .1 .0) (now (a .1 .1 .0)) contract
-    (narrow, few) small (rw size at lent) in
-    (packed .0, packed .1 ∙ sym size)
+    fills vertical Verticals.writer (now (a .0)) (a .1 .0) (now (a .1 .1 .0)) contract (narrow, few) small
+    (given ∙ rw (width, n) (unsigned-room _ _ _ narrow few)) lent
 
 -- of the others it is enough for every list
 pub runs-fit : EveryRunsPack (λ κs a r e. a .1 .0 ≤ 32 → length (now (a .0)) ≤ 16384
