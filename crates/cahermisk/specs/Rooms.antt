@@ -1,6 +1,6 @@
 -- How many places to lend for what a call writes: what the header's macros give, within the limits of the column.
 use mathlib.Core.Path.{_≡_, refl}
-use Prim.Native.Nat.{ℕ, zero, suc}
+use Prim.Native.Nat.{ℕ, zero, suc, _+_, _*_, _/_}
 use native.Mathlib.Omega.{arith}
 use Rattle.rules.specs.Bits.{ceil}
 use Rattle.rules.specs.Answer.{countFault, limitFault}
@@ -31,6 +31,10 @@ runsBytes w n = unless (limitFault w n) (Runs.enoughBytes w n)
 
 abbrev pub deltaBytes : ℕ → ℕ
 deltaBytes n = unless (countFault n) (Delta.enoughBytes 32 n)
+
+-- enough for the stretches of any n entries
+abbrev pub spansPlaces : ℕ → ℕ
+spansPlaces n = unless (countFault n) (2 * ((n + 1) / 2))
 
 pub within : (fault places : ℕ) → fault ≡ 0 → unless fault places ≡ places
 within zero places e = refl

@@ -5,5 +5,6 @@ pub mod dictionary;
 pub mod horizontal;
 pub mod rooms;
 pub mod runs;
+pub mod spans;
 pub mod version;
 pub mod vertical;

@@ -1,6 +1,7 @@
 // How many places to lend, for callers that cannot use the header's macros.
 ghost use mathlib.Core.Path.{_≡_};
-ghost use Rattle.cahermisk.specs.Rooms.{bitmapBytes, deltaBytes, horizontalBytes, runsBytes, verticalWords};
+ghost use Rattle.cahermisk.specs.Rooms.{bitmapBytes, deltaBytes, horizontalBytes, runsBytes};
+ghost use Rattle.cahermisk.specs.Rooms.{spansPlaces, verticalWords};
 use limits::signed_fault;
 use limits::unsigned_fault;
 
@@ -53,4 +54,14 @@ pub extern "C" fn cahermisk_delta_bytes(n: usize) -> usize
         return 0;
     }
     11 + (n + 126) / 128 * 521
+}
+
+#[no_mangle]
+pub extern "C" fn cahermisk_spans_places(n: usize) -> usize
+    ensures { λ r. ⌜ r ≡ spansPlaces n ⌝ }
+{
+    if signed_fault(n) != 0 {
+        return 0;
+    }
+    2 * ((n + 1) / 2)
 }

@@ -13,3 +13,4 @@ pub mod Signed
 pub mod Delta
 pub mod DeltaWriter
 pub mod Dictionary
+pub mod Spans

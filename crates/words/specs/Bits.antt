@@ -1,6 +1,6 @@
 -- The laws of `bit` and `word`, over the width.
 use mathlib.Core.Path.{_≡_, refl, sym, ap, _∙_}
-use mathlib.Core.Bool.{Bool, true, false, not, _&&_, _||_}
+use mathlib.Core.Bool.{Bool, true, false, not, xor, _&&_, _||_}
 use Prim.Native.Nat.{ℕ, zero, suc, _+_, _-_, _*_, _/_, _%_, _^_, _≤_, _<_, min, max}
 use native.Mathlib.Nat.{not-suc-le-zero, div-one, zero-div, one-mul, mul-assoc, add-zero, zero-add, suc-add}
 use native.Mathlib.Nat.{pow-suc, add-comm, lt-of-lt-of-le}
@@ -8,7 +8,8 @@ use native.Mathlib.Numerals.{add-one}
 use native.Mathlib.Omega.{arith}
 use lib.Arith.{lt-one}
 use lib.Pow.{pow-mono, ones-sub-lt, shl-exact, shr-shr, mod-pow-add, low, high}
-use lib.Bits.{bitAnd, bitOr, and-step, or-step, and-shr, or-shr, and-lt, or-lt}
+use lib.Bits.{bitAnd, bitOr, bitXor, differ, and-step, or-step, xor-step, and-shr, or-shr, xor-shr}
+use lib.Bits.{and-lt, or-lt, xor-lt}
 use mir.Val.{boolByte}
 use Rattle.rules.specs.Bits.{bit, flag, word}
 
@@ -58,6 +59,16 @@ bit-and = bit-op bitAnd min and-step (λ a b. omega arith) and-shr
 
 pub bit-or : (a b k : ℕ) → bit (bitOr a b) k ≡ max (bit a k) (bit b k)
 bit-or = bit-op bitOr max or-step (λ a b. omega arith) or-shr
+
+differ-lt : (x y : ℕ) → x < 2 → y < 2 → differ x y < 2
+differ-lt zero y h l = l
+differ-lt (suc zero) zero h l = h
+differ-lt (suc zero) (suc zero) h l = omega arith
+differ-lt (suc zero) (suc (suc y)) h l = absurd (omega arith)
+differ-lt (suc (suc x)) y h l = absurd (omega arith)
+
+pub bit-xor : (a b k : ℕ) → bit (bitXor a b) k ≡ differ (bit a k) (bit b k)
+bit-xor = bit-op bitXor differ xor-step (λ a b. differ-lt (a % 2) (b % 2) (omega arith) (omega arith)) xor-shr
 
 -- `!a` of a word of n bits
 pub bit-not : (n : ℕ) {a : ℕ} (k : ℕ) → a < 2 ^ n → k < n → bit (2 ^ n - 1 - a) k ≡ 1 - bit a k
@@ -142,6 +153,13 @@ flag-or true false = refl
 flag-or false true = refl
 flag-or false false = refl
 
+flag-xor : (a b : Bool) → differ (flag a) (flag b) ≡ flag (xor a b)
+unfolding xor
+flag-xor true true = refl
+flag-xor true false = refl
+flag-xor false true = refl
+flag-xor false false = refl
+
 flag-not : (a : Bool) → 1 - flag a ≡ flag (not a)
 flag-not true = refl
 flag-not false = refl
@@ -156,6 +174,11 @@ module _ (n : ℕ) (f g : ℕ → Bool) where
   word-or =
       word-of n _ (or-lt n (word n f) (word n g) (word-lt n f) (word-lt n g))
       (λ k l. rw (bit-or, bit-word n f k l, bit-word n g k l) (flag-or (f k) (g k)))
+
+  pub word-xor : bitXor (word n f) (word n g) ≡ word n (λ k. xor (f k) (g k))
+  word-xor =
+      word-of n _ (xor-lt n (word n f) (word n g) (word-lt n f) (word-lt n g))
+      (λ k l. rw (bit-xor, bit-word n f k l, bit-word n g k l) (flag-xor (f k) (g k)))
 
 pub word-not : (n : ℕ) (f : ℕ → Bool) → 2 ^ n - 1 - word n f ≡ word n (λ k. not (f k))
 word-not n f =

@@ -1,0 +1,4 @@
+pub mod Placed
+pub mod Covers
+pub mod Words
+pub mod Marked
