@@ -37,6 +37,10 @@ use Rattle.cahermisk.proofs.dictionary.cahermisk_dictionary_scan.Kinds as dicti
 use Rattle.cahermisk.proofs.dictionary.cahermisk_dictionary_scan.Reads as dictionary-scan·reads
 use Rattle.cahermisk.proofs.dictionary.cahermisk_dictionary_unpack.Kinds as dictionary-unpack·kinds
 use Rattle.cahermisk.proofs.dictionary.cahermisk_dictionary_unpack.Reads as dictionary-unpack·reads
+use Rattle.cahermisk.proofs.spans.cahermisk_spans_from_bitmap.Kinds as spans-from-bitmap·kinds
+use Rattle.cahermisk.proofs.spans.cahermisk_spans_from_bitmap.Reads as spans-from-bitmap·reads
+use Rattle.cahermisk.proofs.spans.cahermisk_spans_to_bitmap.Kinds as spans-to-bitmap·kinds
+use Rattle.cahermisk.proofs.spans.cahermisk_spans_to_bitmap.Reads as spans-to-bitmap·reads
 use Rattle.cahermisk.proofs.rooms.cahermisk_bitmap_bytes.Kinds as bitmap-bytes·kinds
 use Rattle.cahermisk.proofs.rooms.cahermisk_bitmap_bytes.Reads as bitmap-bytes·reads
 use Rattle.cahermisk.proofs.rooms.cahermisk_horizontal_bytes.Kinds as horizontal-bytes·kinds
@@ -47,6 +51,8 @@ use Rattle.cahermisk.proofs.rooms.cahermisk_runs_bytes.Kinds as runs-bytes·kin
 use Rattle.cahermisk.proofs.rooms.cahermisk_runs_bytes.Reads as runs-bytes·reads
 use Rattle.cahermisk.proofs.rooms.cahermisk_delta_bytes.Kinds as delta-bytes·kinds
 use Rattle.cahermisk.proofs.rooms.cahermisk_delta_bytes.Reads as delta-bytes·reads
+use Rattle.cahermisk.proofs.rooms.cahermisk_spans_places.Kinds as spans-places·kinds
+use Rattle.cahermisk.proofs.rooms.cahermisk_spans_places.Reads as spans-places·reads
 
 -- whatever a call was given, gave back and left, of which its caller learns the one, the other holds
 abbrev pub Every : (k : ℕ) (ps : List (PK k)) (res : RK k) → Out k ps res → Out k ps res → Type 0
@@ -103,6 +109,12 @@ EveryDictionaryScan = Every 3 dictionary-scan·kinds.ps dictionary-scan·kinds.r
 abbrev pub EveryDictionaryUnpack : Out 3 dictionary-unpack·kinds.ps dictionary-unpack·kinds.r → Type 0
 EveryDictionaryUnpack = Every 3 dictionary-unpack·kinds.ps dictionary-unpack·kinds.r dictionary-unpack·reads.Learnt
 
+abbrev pub EverySpansFromBitmap : Out 2 spans-from-bitmap·kinds.ps spans-from-bitmap·kinds.r → Type 0
+EverySpansFromBitmap = Every 2 spans-from-bitmap·kinds.ps spans-from-bitmap·kinds.r spans-from-bitmap·reads.Learnt
+
+abbrev pub EverySpansToBitmap : Out 2 spans-to-bitmap·kinds.ps spans-to-bitmap·kinds.r → Type 0
+EverySpansToBitmap = Every 2 spans-to-bitmap·kinds.ps spans-to-bitmap·kinds.r spans-to-bitmap·reads.Learnt
+
 abbrev pub EveryBitmapBytes : Out 0 bitmap-bytes·kinds.ps bitmap-bytes·kinds.r → Type 0
 EveryBitmapBytes = Every 0 bitmap-bytes·kinds.ps bitmap-bytes·kinds.r bitmap-bytes·reads.Learnt
 
@@ -117,6 +129,9 @@ EveryRunsBytes = Every 0 runs-bytes·kinds.ps runs-bytes·kinds.r runs-bytes·re
 
 abbrev pub EveryDeltaBytes : Out 0 delta-bytes·kinds.ps delta-bytes·kinds.r → Type 0
 EveryDeltaBytes = Every 0 delta-bytes·kinds.ps delta-bytes·kinds.r delta-bytes·reads.Learnt
+
+abbrev pub EverySpansPlaces : Out 0 spans-places·kinds.ps spans-places·kinds.r → Type 0
+EverySpansPlaces = Every 0 spans-places·kinds.ps spans-places·kinds.r spans-places·reads.Learnt
 
 -- ---- the caller need check nothing first
 
@@ -165,6 +180,12 @@ dictionary-scan-asks-nothing κs a = refl
 pub dictionary-unpack-asks-nothing : AsksNothing 3 dictionary-unpack·kinds.ps dictionary-unpack·reads.Asked
 dictionary-unpack-asks-nothing κs a = refl
 
+pub spans-from-bitmap-asks-nothing : AsksNothing 2 spans-from-bitmap·kinds.ps spans-from-bitmap·reads.Asked
+spans-from-bitmap-asks-nothing κs a = refl
+
+pub spans-to-bitmap-asks-nothing : AsksNothing 2 spans-to-bitmap·kinds.ps spans-to-bitmap·reads.Asked
+spans-to-bitmap-asks-nothing κs a = refl
+
 pub bitmap-bytes-asks-nothing : AsksNothing 0 bitmap-bytes·kinds.ps bitmap-bytes·reads.Asked
 bitmap-bytes-asks-nothing κs a = refl
 
@@ -179,3 +200,6 @@ runs-bytes-asks-nothing κs a = refl
 
 pub delta-bytes-asks-nothing : AsksNothing 0 delta-bytes·kinds.ps delta-bytes·reads.Asked
 delta-bytes-asks-nothing κs a = refl
+
+pub spans-places-asks-nothing : AsksNothing 0 spans-places·kinds.ps spans-places·reads.Asked
+spans-places-asks-nothing κs a = refl

@@ -1,23 +1,30 @@
--- The codes: every code that a C function gives is one of those that its row of document 01 names, 0 among them for
--- acceptance.
+-- The codes: every code that a C function gives is one of those that its row of document 01, or of spans in document
+-- 02, names, 0 among them for acceptance.
 use mathlib.Core.Path.{_≡_, refl}
-use mathlib.Core.Bool.{Bool, true, false, _||_}
+use mathlib.Core.Bool.{Bool, true, false, not, _||_}
 use mathlib.Core.List.{List, [], _∷_}
-use Prim.Native.Nat.{ℕ}
+use mathlib.Core.Logic.{_↔_}
+use Prim.Native.Nat.{ℕ, _%_, _≤_}
 use native.Mathlib.Omega.{arith}
-use lib.Dec.{eqb}
+use lib.Dec.{ltb, eqb}
 use lib.ListN.{length}
 use denote.Ref.{now}
+use Rattle.rules.specs.Bits.{ceil}
+use Rattle.rules.specs.Spans.{misplaced}
 use Rattle.delta_write.specs.Deltas.{no-wide-fault}
-use Rattle.promises.specs.WhichFaults.{count-limit, limits, large, scan-code, unpack-code, pack-code}
+use Rattle.promises.specs.WhichFaults.{a-fault, in-order, count-limit, limits, large}
+use Rattle.promises.specs.WhichFaults.{scan-code, unpack-code, pack-code}
 use Rattle.promises.specs.WhichFaults.{horizontal-page, vertical-page, stream, delta-page, column}
 use Rattle.promises.specs.OneRunFaults.{one-code}
+use Rattle.promises.specs.Pairs.{Ascends}
+use Rattle.promises.specs.Spans.{ascends-or-18}
 use Rattle.promises.specs.Exported as Exported
 use Rattle.promises.specs.Calls.{EveryHorizontalScan, EveryHorizontalUnpack, EveryHorizontalPack}
 use Rattle.promises.specs.Calls.{EveryVerticalScan, EveryVerticalUnpack, EveryVerticalPack}
 use Rattle.promises.specs.Calls.{EveryRunsScan, EveryRunsUnpack, EveryRunsPack, EveryRunsNext}
 use Rattle.promises.specs.Calls.{EveryDeltaScan, EveryDeltaUnpack, EveryDeltaPack}
 use Rattle.promises.specs.Calls.{EveryDictionaryScan, EveryDictionaryUnpack}
+use Rattle.promises.specs.Calls.{EverySpansFromBitmap, EverySpansToBitmap}
 
 -- is the code one of those
 abbrev pub oneOf : List ℕ → ℕ → Bool
@@ -62,6 +69,12 @@ dictionaryScan = 0 ∷ 2 ∷ 3 ∷ 4 ∷ 14 ∷ 1 ∷ 5 ∷ 6 ∷ 8 ∷ 9 ∷ 10
 
 abbrev pub dictionaryUnpack : List ℕ
 dictionaryUnpack = 0 ∷ 2 ∷ 4 ∷ 14 ∷ 1 ∷ 5 ∷ 6 ∷ 8 ∷ 9 ∷ 10 ∷ 11 ∷ 15 ∷ []
+
+abbrev pub spansFromBitmap : List ℕ
+spansFromBitmap = 0 ∷ 2 ∷ 5 ∷ 4 ∷ []
+
+abbrev pub spansToBitmap : List ℕ
+spansToBitmap = 0 ∷ 2 ∷ 5 ∷ 4 ∷ 18 ∷ []
 
 -- ---- the calls
 
@@ -158,3 +171,23 @@ dictionary-unpack κs a r e contract =
     let N : ℕ → Type 0 = Named dictionaryUnpack in
     unpack-code N refl _ _ _ _ (Exported.dictionary-unpack κs a r e contract .code-is) refl
     (count-limit N refl refl (a .1 .1 .0)) (column N refl refl refl refl refl refl refl refl refl refl _ _ _)
+
+pub spans-from-bitmap : EverySpansFromBitmap (λ κs a r e. oneOf spansFromBitmap (r .code) ≡ true)
+spans-from-bitmap κs a r e contract =
+    let N : ℕ → Type 0 = Named spansFromBitmap in
+    pack-code N refl _ _ _ _ (Exported.spans-from-bitmap κs a r e contract .code-is) refl
+    (count-limit N refl refl (a .1 .0)) (a-fault N refl (ltb (length (now (a .0))) (ceil (a .1 .0) 8)) refl)
+
+pub spans-to-bitmap : EverySpansToBitmap (λ κs a r e. oneOf spansToBitmap (r .code) ≡ true)
+spans-to-bitmap κs a r e contract =
+    let N : ℕ → Type 0 = Named spansToBitmap in
+    rw (Exported.spans-to-bitmap κs a r e contract .code-is)
+    (in-order N refl (count-limit N refl refl (a .1 .0))
+    (unpack-code N refl _ _ _ _ refl refl (a-fault N refl (not (eqb (length (now (a .0)) % 2) 0)) refl)
+    (a-fault N refl (misplaced (a .1 .0) 0 (now (a .0))) refl)))
+
+-- where nothing else is wrong, 18 is given just where the list does not ascend
+pub eighteen : EverySpansToBitmap (λ κs a r e.
+    a .1 .0 ≤ 16384 → length (now (a .0)) % 2 ≡ 0 → ceil (a .1 .0) 8 ≤ length (now (a .1 .1 .0))
+    → r .code ≡ 18 ↔ (Ascends (a .1 .0) (now (a .0)) → ⊥))
+eighteen κs a r e contract few even room = ascends-or-18 _ _ _ contract few even room

@@ -2,15 +2,17 @@
 -- `before` and `after` are what the lent places hold at entry and at exit, and r is the answer. Exported says that
 -- the functions keep to it.
 use mathlib.Core.Path.{_≡_}
+use mathlib.Core.Bool.{true, not}
 use mathlib.Core.List.{List}
 use mathlib.Core.Logic.{_↔_}
-use Prim.Native.Nat.{ℕ, _+_, _-_, _≤_, _<_}
+use Prim.Native.Nat.{ℕ, _+_, _-_, _*_, _%_, _≤_, _<_}
+use lib.Dec.{ltb, eqb}
 use lib.IntN.{ℤ, pos}
 use lib.ListN.{length}
 use Rattle.rules.specs.Bits.{ceil, entry}
 use Rattle.rules.specs.Bits.Order.{lowFirst}
 use Rattle.rules.specs.Comparison.{holds}
-use Rattle.rules.specs.Answer.{_then_, countFault, limitFault, operatorFault, roomFault, largeFault}
+use Rattle.rules.specs.Answer.{faulty, _then_, countFault, limitFault, operatorFault, roomFault, largeFault}
 use Rattle.rules.specs.Horizontal as Horizontal
 use Rattle.rules.specs.Vertical as Vertical
 use Rattle.rules.specs.Runs.{read, streamFault}
@@ -19,6 +21,7 @@ use Rattle.rules.specs.Grammar.{Piece, Cut}
 use Rattle.rules.specs.Delta as Delta
 use Rattle.rules.specs.DeltaWriter as DeltaWriter
 use Rattle.rules.specs.Dictionary as Dictionary
+use Rattle.rules.specs.Spans.{selected, spans, covered, misplaced}
 use Rattle.rules.specs.declared.Answer.{Answer}
 use Rattle.rules.specs.declared.RunAnswer.{RunAnswer}
 use Rattle.words.specs.Joined.{Small}
@@ -32,6 +35,8 @@ use Rattle.promises.specs.DictionaryFaults as DictionaryFaults
 use Rattle.promises.specs.DictionaryFaults.{Indexes, indexOf}
 use Rattle.promises.specs.RunThere.{RunThere, Tells}
 use Rattle.promises.specs.OneRunFaults.{oneFault}
+use Rattle.promises.specs.Pairs.{Ascends, Within}
+use Rattle.promises.specs.Stretches.{Stretches}
 
 -- what every answer keeps to, over the first fault, what is accepted and what that gives
 pub record Keeps {A : Type 0} (fault : ℕ) (Good Gives : Type 0) (before after : List A) (r : Answer) : Type 0 where
@@ -193,4 +198,25 @@ DictionaryUnpack dict page n before after r =
     (countFault n then roomFault (length before) n then Dictionary.columnFault dict n page)
     (n ≤ 16384 and n ≤ length before and DictionaryFaults.Exact page dict n)
     ((p : Indexes page n) → Fills n (λ i. Dictionary.value dict (indexOf p i)) before after (r .number))
+    before after r
+
+-- ---- spans: a bitmap's stretches of selected entries as a list of pairs, and the bitmap of such a list
+
+-- each maximal stretch once, ascending; the number is the pairs written, two places each
+abbrev pub SpansFromBitmap : List ℕ → ℕ → List ℕ → List ℕ → Answer → Type 0
+SpansFromBitmap bits n before after r =
+    Keeps
+    (countFault n then faulty (ltb (length bits) (ceil n 8)) 5 then roomFault (length before) (length (spans bits n)))
+    (n ≤ 16384 and ceil n 8 ≤ length bits and length (spans bits n) ≤ length before)
+    (Stretches (selected bits n) (spans bits n) and Writes (spans bits n) before after (2 * r .number))
+    before after r
+
+-- written as a scan's bitmap is, with the entries selected that lie in one of the stretches
+abbrev pub SpansToBitmap : List ℕ → ℕ → List ℕ → List ℕ → Answer → Type 0
+SpansToBitmap list n before after r =
+    Keeps
+    (countFault n then faulty (not (eqb (length list % 2) 0)) 5 then roomFault (length before) (ceil n 8)
+    then faulty (misplaced n 0 list) 18)
+    (n ≤ 16384 and length list % 2 ≡ 0 and ceil n 8 ≤ length before and Ascends n list)
+    (((i : ℕ) → covered list i ≡ true ↔ Within list i) and Selects n (covered list) before after (r .number))
     before after r

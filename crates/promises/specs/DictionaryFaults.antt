@@ -6,11 +6,11 @@ use mathlib.Core.List.{List, [], _∷_}
 use mathlib.Core.Logic.{_↔_, Iff·and, Iff·trans}
 use Prim.Native.Nat.{ℕ, suc, _-_, _%_, _≤_, _<_}
 use native.Mathlib.Omega.{arith}
-use lib.Dec.{T, eqb, leb, ltb}
+use lib.Dec.{T, leb, ltb}
 use lib.IntN.{ℤ}
 use lib.ListN.{length}
 use lib.Signed.{leZ, ltZ, _<ℤ_, ltZ-yes}
-use borrow.Author.Tests.{eqb-true, eq-eqb, not-false, ltb-false, le-ltb, leb-false, lt-leb}
+use borrow.Author.Tests.{ltb-false, le-ltb, leb-false, lt-leb}
 use Rattle.rules.specs.Runs.{read, streamFault, streamEntry}
 use Rattle.rules.specs.Runs.Stream.{bad}
 use Rattle.rules.specs.Grammar.{Piece, Cut}
@@ -20,7 +20,7 @@ use Rattle.words.specs.Tests as Tests
 use Rattle.words.specs.SomeBelow.{none-below, below-none}
 use Rattle.signed.specs.Order.{not-ltZ, not-leZ}
 use Rattle.runs_read.specs.Exact as Runs
-use Rattle.promises.specs.NoFault.{_and_, neither, no-fault}
+use Rattle.promises.specs.NoFault.{_and_, neither, no-fault, no-rest}
 use Rattle.promises.specs.Runs.{entryOf}
 
 -- 4-byte numbers, 65,536 bytes at most, strictly ascending
@@ -54,9 +54,6 @@ pub record Exact (page dict : List ℕ) (n : ℕ) : Type 0 where
 neither-holds : {P Q : Type 0} (s t : Bool) → (s ≡ false ↔ P) → (t ≡ false ↔ Q) → s || t ≡ false ↔ P and Q
 neither-holds s t p q = Iff·trans (Tests.neither s t, λ e. ap₂ _||_ (e .0) (e .1)) (Iff·and p q)
 
-multiple : (n : ℕ) → not (eqb (n % 4) 0) ≡ false ↔ n % 4 ≡ 0
-multiple n = (λ e. eqb-true (n % 4) 0 (not-false _ e), λ e. ap not (eq-eqb (n % 4) 0 e))
-
 -- not at most is above
 above : (x y : ℤ) → leZ y x ≡ false ↔ x <ℤ y
 above x y = (λ e. ltZ-yes (rw (not-leZ x y, e) tt), λ h. not-ltZ y x ∙ go (ltZ x y) (h .lt))
@@ -81,7 +78,7 @@ module _ (dict : List ℕ) where
       Iff·trans (no-fault _ 14 (λ e. omega arith))
       (Iff·trans
       (neither-holds _ _
-      (neither-holds _ _ (multiple (length dict)) (ltb-false 65536 (length dict), le-ltb 65536 (length dict)))
+      (neither-holds _ _ (no-rest (length dict % 4)) (ltb-false 65536 (length dict), le-ltb 65536 (length dict)))
       ordered) (
         λ e. record { whole = e .0 .0; short = e .0 .1; ascends = e .1 },
         λ good. ((good .whole, good .short), good .ascends),

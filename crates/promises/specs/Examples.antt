@@ -25,6 +25,7 @@ use Rattle.rules.specs.DeltaWriter as DeltaWriter
 use Rattle.rules.specs.declared.Next.{Next}
 use Rattle.rules.specs.declared.Next.the-variants.{Repeats, Packs}
 use Rattle.rules.specs.Dictionary as Dictionary
+use Rattle.rules.specs.Spans as Spans
 
 -- what the definition gives, and what the document says: of signed entries, and unsigned ones as such
 pub record Row : Type 0 where
@@ -96,6 +97,13 @@ dict3 = 0x88 ∷ 0xFF ∷ 0xFF ∷ 0xFF ∷ 0x00 ∷ 0x00 ∷ 0x00 ∷ 0x00 ∷ 
 -- and 310
 abbrev pub dict4 : List ℕ
 dict4 = dict3 ++ (0x36 ∷ 0x01 ∷ 0x00 ∷ 0x00 ∷ [])
+
+-- 70 entries, of which 5, 62 to 65 and 69 are selected
+abbrev pub bits70 : List ℕ
+bits70 = 0x20 ∷ replicate 6 0x00 ++ (0xC0 ∷ 0x23 ∷ [])
+
+abbrev pub spans70 : List ℕ
+spans70 = 5 ∷ 5 ∷ 62 ∷ 65 ∷ 69 ∷ 69 ∷ []
 
 abbrev pub rows : List Row
 rows =
@@ -180,6 +188,30 @@ rows =
     ∷ Dictionary.scan dict4 (0x02 ∷ 0x06 ∷ 0x00 ∷ []) 3 2 (pos 0) (pos 0) (lent 2) is holding 3 (0x07 ∷ lent 1)
     ∷ Dictionary.scan (drop 4 dict3 ++ dict3) (0x02 ∷ 0x06 ∷ 0x00 ∷ []) 3 2 (pos 0) (pos 0) (lent 2)
     is refusing 14 (lent 2)
+    -- spans 5 to 5, 62 to 65 and 69 to 69 of 70 entries: over a byte and a word, and up to the last entry; and back
+    ∷ Spans.fromBitmap bits70 70 (lent 7) is holding 3 (spans70 ++ lent 1)
+    ∷ Spans.toBitmap spans70 70 (lent 10) is holding 6 (bits70 ++ lent 1)
+    -- bits past n are not read, nor later bytes; a place too few is 4, a short bitmap 5 before that
+    ∷ Spans.fromBitmap (0xFC ∷ 0xFF ∷ []) 6 (lent 3) is holding 1 (2 ∷ 5 ∷ lent 1)
+    ∷ Spans.fromBitmap (0xFC ∷ 0xFF ∷ []) 6 (lent 1) is refusing 4 (lent 1)
+    ∷ Spans.fromBitmap (0xFC ∷ []) 9 (lent 1) is refusing 5 (lent 1)
+    -- of no entries there are none
+    ∷ Spans.fromBitmap (0xFF ∷ []) 0 [] is holding 0 []
+    ∷ Spans.toBitmap [] 0 (lent 1) is holding 0 (lent 1)
+    ∷ Spans.toBitmap (0 ∷ 0 ∷ []) 0 (lent 1) is refusing 18 (lent 1)
+    -- 0 to 2 and 4 to 5 of six entries; 0 to 2 and 3 to 5 touch: 18
+    ∷ Spans.toBitmap (0 ∷ 2 ∷ 4 ∷ 5 ∷ []) 6 (lent 2) is holding 5 (0x37 ∷ lent 1)
+    ∷ Spans.toBitmap (0 ∷ 2 ∷ 3 ∷ 5 ∷ []) 6 (lent 2) is refusing 18 (lent 2)
+    -- so is an end that is n, one before its start, and a list that goes back, also where 32 bits would turn over
+    ∷ Spans.toBitmap (4 ∷ 6 ∷ []) 6 (lent 2) is refusing 18 (lent 2)
+    ∷ Spans.toBitmap (3 ∷ 2 ∷ []) 6 (lent 2) is refusing 18 (lent 2)
+    ∷ Spans.toBitmap (4 ∷ 5 ∷ 0 ∷ 2 ∷ []) 6 (lent 2) is refusing 18 (lent 2)
+    ∷ Spans.toBitmap (0 ∷ 4294967295 ∷ 1 ∷ 2 ∷ []) 6 (lent 2) is refusing 18 (lent 2)
+    -- 2 comes before 5, an odd list is 5 before 4, and 4 comes before 18
+    ∷ Spans.fromBitmap [] 16385 [] is refusing 2 []
+    ∷ Spans.toBitmap (3 ∷ []) 16385 [] is refusing 2 []
+    ∷ Spans.toBitmap (3 ∷ 2 ∷ 4 ∷ []) 6 [] is refusing 5 []
+    ∷ Spans.toBitmap (3 ∷ 2 ∷ []) 6 [] is refusing 4 []
     ∷ []
 
 -- each definition gives what the document says
@@ -195,6 +227,8 @@ unfolding Horizontal.scan Horizontal.unpack Horizontal.pack Horizontal.pageFault
     DeltaWriter.pack DeltaWriter.page DeltaWriter.block DeltaWriter.widthOf DeltaWriter.wideFault
     Dictionary.scan Dictionary.value Dictionary.unordered Dictionary.dictionaryFault Dictionary.indexes
     Dictionary.indexAt Dictionary.indexFault Dictionary.columnFault
+    Spans.selected Spans.begins Spans.ends Spans.edges Spans.spans Spans.fromBitmap Spans.covered Spans.misplaced
+    Spans.toBitmap
     anyLarge largeFault _then_ limitFault operatorFault roomFault answered
     bitmap tally between operators holds tabulate someBelow put bit word bytes joined bitOf bitAt piece
 examples = refl

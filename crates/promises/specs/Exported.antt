@@ -13,6 +13,7 @@ use Rattle.promises.specs.Calls.{EveryVerticalScan, EveryVerticalUnpack,
 use Rattle.promises.specs.Calls.{EveryRunsScan, EveryRunsUnpack, EveryRunsPack, EveryRunsNext}
 use Rattle.promises.specs.Calls.{EveryDeltaScan, EveryDeltaUnpack, EveryDeltaPack}
 use Rattle.promises.specs.Calls.{EveryDictionaryScan, EveryDictionaryUnpack}
+use Rattle.promises.specs.Calls.{EverySpansFromBitmap, EverySpansToBitmap}
 use Rattle.promises.specs.Horizontal as Horizontals
 use Rattle.promises.specs.Horizontal.{horizontal}
 use Rattle.promises.specs.Vertical as Verticals
@@ -29,6 +30,8 @@ use Rattle.promises.specs.Conditions.{HorizontalScan, HorizontalUnpack, 
 use Rattle.promises.specs.Conditions.{VerticalScan, VerticalUnpack, VerticalPack}
 use Rattle.promises.specs.Conditions.{RunsScan, RunsUnpack, RunsPack, RunsNext}
 use Rattle.promises.specs.Conditions.{DeltaScan, DeltaUnpack, DeltaPack, DictionaryScan, DictionaryUnpack}
+use Rattle.promises.specs.Conditions.{SpansFromBitmap, SpansToBitmap}
+use Rattle.promises.specs.Spans.{from-keeps, to-keeps}
 
 pub horizontal-scan : EveryHorizontalScan
     (λ κs a r e. HorizontalScan (now (a .0)) (a .1 .0) (a .1 .1 .0) (a .1 .1 .1 .0) (a .1 .1 .1 .1 .0)
@@ -120,3 +123,11 @@ pub dictionary-unpack : EveryDictionaryUnpack
 unfolding Dictionary.unpack
 dictionary-unpack κs a r e contract =
     giving (unpack-keeps dictionary _ _ _ _ contract) (λ ok. Columns.unpack-cut _ _ _ _ contract ok)
+
+pub spans-from-bitmap : EverySpansFromBitmap
+    (λ κs a r e. SpansFromBitmap (now (a .0)) (a .1 .0) (now (a .1 .1 .0)) (now (e .1 .1 .0)) r)
+spans-from-bitmap κs a r e contract = from-keeps _ _ _ contract
+
+pub spans-to-bitmap : EverySpansToBitmap
+    (λ κs a r e. SpansToBitmap (now (a .0)) (a .1 .0) (now (a .1 .1 .0)) (now (e .1 .1 .0)) r)
+spans-to-bitmap κs a r e contract = to-keeps _ _ _ contract

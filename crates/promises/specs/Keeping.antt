@@ -27,7 +27,7 @@ use Rattle.promises.specs.Writers.{Writer, packs}
 use Rattle.promises.specs.Conditions.{Keeps}
 
 -- no place is gained or lost, since what is written has room
-room-kept : {A : Type 0} (fault n : ℕ) (wrote before : List A) {after : List A} {r : Answer}
+pub room-kept : {A : Type 0} (fault n : ℕ) (wrote before : List A) {after : List A} {r : Answer}
     → (fault ≡ 0 → length wrote ≤ length before) → outcome r after ≡ answered fault n wrote before
     → length after ≡ length before
 unfolding answered
@@ -38,7 +38,7 @@ room-kept zero n wrote before {after} fits contract =
 room-kept (suc fault) n wrote before {after} fits contract = let e : after ≡ before = cc in ap length e
 
 -- from the promise of an answer
-keeping : {A : Type 0} {fault : ℕ} {before after : List A} {r : Answer} {Good Gives : Type 0}
+pub keeping : {A : Type 0} {fault : ℕ} {before after : List A} {r : Answer} {Good Gives : Type 0}
     → Promise fault before after r Gives → (r .code ≡ 0 ↔ Good) → length after ≡ length before
     → Keeps fault Good Gives before after r
 keeping p good room =

@@ -1,5 +1,5 @@
 -- The chapter in reading order: what every answer promises, what every layout does, the layouts one by one, one run
--- asked for by itself, what holds of each C function, what the writers write, the examples.
+-- asked for by itself, spans, what holds of each C function, what the writers write, the examples.
 pub mod Promise
 pub mod Equal
 pub mod Fronts
@@ -23,12 +23,18 @@ pub mod Dictionary
 pub mod RunThere
 pub mod OneRunFaults
 pub mod OneRun
+pub mod Pairs
+pub mod SpansFaults
+pub mod Listed
+pub mod Stretches
 pub mod Conditions
 pub mod Keeping
+pub mod Spans
 pub mod Calls
 pub mod Exported
 pub mod Rooms
 pub mod ThereAndBack
+pub mod NotRead
 pub mod Handing
 pub mod Codes
 pub mod Counts

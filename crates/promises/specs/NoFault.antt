@@ -1,14 +1,15 @@
 -- When a listed fault is not there, in plain conditions: the faults of several layouts.
-use mathlib.Core.Path.{_≡_}
-use mathlib.Core.Bool.{Bool, false}
+use mathlib.Core.Path.{_≡_, ap}
+use mathlib.Core.Bool.{Bool, false, not}
 use mathlib.Core.List.{List}
 use mathlib.Core.Logic.{_↔_, Iff·and, Iff·trans}
 use Prim.Native.Nat.{ℕ, _≤_}
 use native.Mathlib.Omega.{arith}
-use lib.Dec.{ltb}
-use borrow.Author.Tests.{ltb-false, le-ltb}
+use lib.Dec.{ltb, eqb}
+use borrow.Author.Tests.{ltb-false, le-ltb, eqb-true, eq-eqb, not-false}
 use Rattle.rules.specs.Bits.{ceil}
-use Rattle.rules.specs.Answer.{faulty, _then_, limitFault, operatorFault, roomFault, anyLarge, largeFault}
+use Rattle.rules.specs.Answer.{faulty, _then_, countFault, limitFault, operatorFault, roomFault}
+use Rattle.rules.specs.Answer.{anyLarge, largeFault}
 use Rattle.words.specs.Joined.{Small}
 use Rattle.packed_entries.specs.NoneTooLarge.{small-of, large-of}
 use Rattle.answers.specs.Laws.{then-none, then-zero, not-faulty}
@@ -30,10 +31,18 @@ no-fault t code some = (not-faulty t code some, λ e. rw e)
 pub not-below : (x y code : ℕ) → (code ≡ 0 → ⊥) → faulty (ltb x y) code ≡ 0 ↔ y ≤ x
 not-below x y code some = Iff·trans (no-fault (ltb x y) code some) (ltb-false x y, le-ltb x y)
 
+-- a test that there is a rest
+pub no-rest : (m : ℕ) → not (eqb m 0) ≡ false ↔ m ≡ 0
+no-rest m = (λ e. eqb-true m 0 (not-false _ e), λ e. ap not (eq-eqb m 0 e))
+
+-- 2
+pub count-kept : (n : ℕ) → countFault n ≡ 0 ↔ n ≤ 16384
+count-kept n = not-below 16384 n 2 (λ e. omega arith)
+
 -- 1, 2
 pub limits-kept : (w n : ℕ) → limitFault w n ≡ 0 ↔ w ≤ 32 and n ≤ 16384
 unfolding limitFault
-limits-kept w n = neither _ _ (not-below 32 w 1 (λ e. omega arith)) (not-below 16384 n 2 (λ e. omega arith))
+limits-kept w n = neither _ _ (not-below 32 w 1 (λ e. omega arith)) (count-kept n)
 
 -- 3
 pub operator-known : (op : ℕ) → operatorFault op ≡ 0 ↔ op ≤ 7

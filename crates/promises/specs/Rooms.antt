@@ -1,13 +1,15 @@
--- The room that a C function gives is enough: any list within the limits is packed there, and a bare page fills it.
--- Of two calls: the second (a′, e′) is asked for the room of the first one's width and count.
+-- The room that a C function gives is enough: any list within the limits is packed there, and any bitmap's spans are
+-- written; a bare page fills it. Of two calls: the second (a′, e′) is asked for the room of the first one's width and
+-- count.
 use mathlib.Core.Path.{_≡_, sym, _∙_}
 use mathlib.Core.Bool.{Bool}
 use mathlib.Core.List.{List}
-use Prim.Native.Nat.{ℕ, _≤_}
+use Prim.Native.Nat.{ℕ, _+_, _*_, _/_, _≤_}
 use native.Mathlib.Nat.{le-trans}
 use native.Mathlib.Omega.{arith}
 use lib.ListN.{length}
 use denote.Ref.{now}
+use Rattle.rules.specs.Bits.{ceil}
 use Rattle.rules.specs.Answer.{countFault, limitFault}
 use Rattle.rules.specs.Answer.Outcome.{outcome}
 use Rattle.rules.specs.Bitmap.{bitmap}
@@ -23,8 +25,9 @@ use Rattle.runs_write.specs.Sizes.{stream-enough}
 use Rattle.delta_write.specs.Deltas.{AllWithin}
 use Rattle.delta_write.specs.Sizes as Delta
 use Rattle.delta_write.specs.Sizes.{page-enough}
+use Rattle.spans_list.specs.Turns.{spans-enough}
 use Rattle.cahermisk.specs.Rooms.{unless, within}
-use Rattle.promises.specs.NoFault.{limits-kept, not-below}
+use Rattle.promises.specs.NoFault.{count-kept, limits-kept}
 use Rattle.promises.specs.Layouts.{Layout}
 use Rattle.promises.specs.Writers.{Writer, packs, pack, pack-accepted}
 use Rattle.promises.specs.Horizontal as Horizontals
@@ -35,9 +38,10 @@ use Rattle.promises.specs.Runs as Streams
 use Rattle.promises.specs.Runs.{runs}
 use Rattle.promises.specs.Delta as Deltas
 use Rattle.promises.specs.Delta.{delta}
+use Rattle.promises.specs.Exported.{spans-from-bitmap}
 use Rattle.promises.specs.Calls.{EveryHorizontalPack, EveryVerticalPack, EveryRunsPack, EveryDeltaPack}
 use Rattle.promises.specs.Calls.{EveryBitmapBytes, EveryHorizontalBytes, EveryVerticalWords, EveryRunsBytes}
-use Rattle.promises.specs.Calls.{EveryDeltaBytes}
+use Rattle.promises.specs.Calls.{EveryDeltaBytes, EverySpansPlaces, EverySpansFromBitmap}
 
 -- in room for its page a list is packed, and the number is the page's length
 fits-in : {K A : Type 0} (L : Layout K A) (W : Writer L) (xs : List A) (k : K) (before : List ℕ) {after : List ℕ}
@@ -61,7 +65,7 @@ unsigned-room : (w n places : ℕ) → w ≤ 32 → n ≤ 16384 → unless (limi
 unsigned-room w n places narrow few = within (limitFault w n) places (limits-kept w n .1 (narrow, few))
 
 signed-room : (n places : ℕ) → n ≤ 16384 → unless (countFault n) places ≡ places
-signed-room n places few = within (countFault n) places (not-below 16384 n 2 (λ e. omega arith) .1 few)
+signed-room n places few = within (countFault n) places (count-kept n .1 few)
 
 -- of the bare layouts the room is the page's length
 pub horizontal-fills : EveryHorizontalPack (λ κs a r e. a .1 .0 ≤ 32 → length (now (a .0)) ≤ 16384
@@ -111,3 +115,14 @@ delta-fits κs a r e contract few held κs′ a′ room e′ given n lent =
 pub bitmap-fills : EveryBitmapBytes (λ κs a room e. a .0 ≤ 16384
     → (test : ℕ → Bool) → length (bitmap (a .0) test) ≡ room)
 bitmap-fills κs a room e given few test = length-bitmap (a .0) test ∙ sym (given ∙ signed-room _ _ few)
+
+-- the spans of any bitmap that is long enough are written, never 4
+pub spans-fit : EverySpansFromBitmap (λ κs a r e. a .1 .0 ≤ 16384 → ceil (a .1 .0) 8 ≤ length (now (a .0))
+    → EverySpansPlaces (λ κs′ a′ room e′. a′ .0 ≡ a .1 .0 → room ≤ length (now (a .1 .1 .0))
+    → (r .code ≡ 0) × (2 * r .number ≤ room)))
+spans-fit κs a r e contract few long κs′ a′ room e′ given n lent =
+    let size : room ≡ 2 * ((a .1 .0 + 1) / 2) = given ∙ rw n (signed-room _ _ few) in
+    let enough = spans-enough (now (a .0)) (a .1 .0) in
+    let keeps = spans-from-bitmap κs a r e contract in
+    let ok = keeps .accepted .1 (few, (long, le-trans enough (rw size at lent))) in
+    (ok, rw (keeps .gives ok .1 .number-is, size) enough)

@@ -35,7 +35,7 @@ pub record Selects (n : ℕ) (test : ℕ → Bool) (before after : List ℕ) (nu
   pub later-kept : drop (ceil n 8) after ≡ drop (ceil n 8) before
 
 -- a bit of some bytes is that bit of the first k, if it lies there
-bit-front : (k : ℕ) (l : List ℕ) (i : ℕ) → i < 8 * k → bitAt lowFirst 8 l i ≡ bitAt lowFirst 8 (take k l) i
+pub bit-front : (k : ℕ) (l : List ℕ) (i : ℕ) → i < 8 * k → bitAt lowFirst 8 l i ≡ bitAt lowFirst 8 (take k l) i
 unfolding bitAt bitOf
 bit-front k l i h = ap (λ (x : ℕ). bit x (i % 8)) (sym (getD-take k l (i / 8) 0 (omega arith)))
 

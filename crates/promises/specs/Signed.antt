@@ -3,10 +3,9 @@ use mathlib.Core.Path.{_≡_}
 use mathlib.Core.List.{List}
 use mathlib.Core.Logic.{_↔_}
 use Prim.Native.Nat.{ℕ, _≤_}
-use native.Mathlib.Omega.{arith}
 use lib.IntN.{ℤ}
 use Rattle.rules.specs.Answer.{countFault}
-use Rattle.promises.specs.NoFault.{not-below}
+use Rattle.promises.specs.NoFault.{count-kept}
 use Rattle.promises.specs.Layouts.{Layout}
 
 abbrev pub signed : {K : Type 0} (fault : List ℕ → K → ℕ → ℕ) (Exact : List ℕ → K → ℕ → Type 0)
@@ -17,7 +16,7 @@ signed fault Exact exact entry =
     record {
       limits = λ k n. countFault n;
       Kept = λ k n. n ≤ 16384;
-      kept = λ k n. not-below 16384 n 2 (λ e. omega arith);
+      kept = λ k n. count-kept n;
       fault = fault;
       Exact = Exact;
       exact = exact;

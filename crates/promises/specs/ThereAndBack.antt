@@ -1,11 +1,12 @@
--- What is packed is read back, and what is unpacked of a bare page packs to it again: of two calls, of which the
--- second is given what the first left. A second call's arguments, answer and exit are marked a′, r′, e′.
+-- What is packed is read back, what is unpacked of a bare page packs to it again, and a bitmap and its spans make each
+-- other: of two calls, of which the second is given what the first left. A second call's arguments, answer and exit are
+-- marked a′, r′, e′.
 use mathlib.Core.Path.{_≡_, _∙_}
-use Prim.Native.Nat.{_≤_}
+use Prim.Native.Nat.{_*_, _/_, _≤_}
 use native.Mathlib.Omega.{arith}
 use lib.ListN.{length, take}
 use denote.Ref.{now}
-use Rattle.rules.specs.Bits.{put}
+use Rattle.rules.specs.Bits.{ceil, put}
 use Rattle.rules.specs.Answer.{accepted}
 use Rattle.rules.specs.Answer.Outcome.{outcome}
 use Rattle.rules.specs.Horizontal as Horizontal
@@ -15,6 +16,7 @@ use Rattle.rules.specs.RunWriter as RunWriter
 use Rattle.rules.specs.Delta as Delta
 use Rattle.rules.specs.DeltaWriter as DeltaWriter
 use Rattle.words.specs.Joined.{Small}
+use Rattle.bitmaps.specs.Counts.{countOnes}
 use Rattle.delta_write.specs.Deltas.{AllWithin}
 use Rattle.promises.specs.Writers.{packed-unpacks}
 use Rattle.promises.specs.Bare.{unpacked-packs}
@@ -26,9 +28,10 @@ use Rattle.promises.specs.Runs as Streams
 use Rattle.promises.specs.Runs.{runs}
 use Rattle.promises.specs.Delta as Deltas
 use Rattle.promises.specs.Delta.{delta}
+use Rattle.promises.specs.Spans.{UnusedClear, bitmap-back, list-back}
 use Rattle.promises.specs.Calls.{EveryHorizontalUnpack, EveryHorizontalPack, EveryVerticalUnpack}
 use Rattle.promises.specs.Calls.{EveryVerticalPack, EveryRunsUnpack, EveryRunsPack, EveryDeltaUnpack}
-use Rattle.promises.specs.Calls.{EveryDeltaPack}
+use Rattle.promises.specs.Calls.{EveryDeltaPack, EverySpansFromBitmap, EverySpansToBitmap}
 
 -- ---- packed, and unpacked with room for the entries: they are the entries
 
@@ -109,3 +112,28 @@ vertical-packs-back κs a r e contract ok words κs′ a′ r′ e′ again entr
     again ∙ rw (entries, width)
     (unpacked-packs vertical Verticals.writer Verticals.bare (now (a .0)) (a .1 .0) (a .1 .1 .0)
     (now (a .1 .1 .1 .0)) (now (a′ .1 .1 .0)) words contract ok room)
+
+-- ---- a bitmap's spans, and their bitmap with room for it: it is the bytes that n reaches, where the bitmap lent is
+-- bytes and its bits past n are 0
+
+pub spans-mark-back : EverySpansFromBitmap (λ κs a r e. r .code ≡ 0 → Small 8 (now (a .0))
+    → UnusedClear (a .1 .0) (now (a .0)) → EverySpansToBitmap (λ κs′ a′ r′ e′.
+    now (a′ .0) ≡ take (2 * r .number) (now (e .1 .1 .0)) → a′ .1 .0 ≡ a .1 .0
+    → ceil (a .1 .0) 8 ≤ length (now (a′ .1 .1 .0))
+    → outcome r′ (now (e′ .1 .1 .0))
+    ≡ outcome (accepted (countOnes (take (ceil (a .1 .0) 8) (now (a .0)))))
+    (put (now (a′ .1 .1 .0)) 0 (take (ceil (a .1 .0) 8) (now (a .0))))))
+spans-mark-back κs a r e contract ok bytes clear κs′ a′ r′ e′ again list n room =
+    again ∙ rw (list, n)
+    (bitmap-back (now (a .0)) (a .1 .0) (now (a .1 .1 .0)) contract ok bytes clear (now (a′ .1 .1 .0)) room)
+
+-- ---- the bitmap of a list of spans, and its spans with room for them: they are the list
+
+pub spans-list-back : EverySpansToBitmap (λ κs a r e. r .code ≡ 0 → EverySpansFromBitmap (λ κs′ a′ r′ e′.
+    now (a′ .0) ≡ take (ceil (a .1 .0) 8) (now (e .1 .1 .0)) → a′ .1 .0 ≡ a .1 .0
+    → length (now (a .0)) ≤ length (now (a′ .1 .1 .0))
+    → outcome r′ (now (e′ .1 .1 .0))
+    ≡ outcome (accepted (length (now (a .0)) / 2)) (put (now (a′ .1 .1 .0)) 0 (now (a .0)))))
+spans-list-back κs a r e contract ok κs′ a′ r′ e′ again bitmap n room =
+    again ∙ rw (bitmap, n)
+    (list-back (now (a .0)) (a .1 .0) (now (a .1 .1 .0)) contract ok (now (a′ .1 .1 .0)) room)

@@ -22,16 +22,19 @@ module _ {A : Type 0} where
     -- places past those written keep what they held
     pub later-kept : drop (length wrote) after ≡ drop (length wrote) before
 
-  pub write-promise : (fault : ℕ) (wrote before : List A) {after : List A} {r : Answer}
-      → outcome r after ≡ written fault wrote before
-      → Promise fault before after r (Writes wrote before after (r .number))
-  write-promise fault wrote before =
-      promise fault (length wrote) wrote before
-      (λ number e. record {
+  pub writes : (wrote before : List A) {after : List A} {number : ℕ} → number ≡ length wrote
+      → after ≡ put before 0 wrote → Writes wrote before after number
+  writes wrote before number e =
+      record {
         number-is = number;
         wrote-is = ap (take (length wrote)) e ∙ front before wrote (length wrote) refl;
         later-kept = ap (drop (length wrote)) e ∙ behind before wrote (length wrote) refl;
-      })
+      }
+
+  pub write-promise : (fault : ℕ) (wrote before : List A) {after : List A} {r : Answer}
+      → outcome r after ≡ written fault wrote before
+      → Promise fault before after r (Writes wrote before after (r .number))
+  write-promise fault wrote before = promise fault (length wrote) wrote before (writes wrote before)
 
   -- the same place by place, for n values that are written (d is what `getD` gives where there is no place)
   pub record Fills (n : ℕ) (value : ℕ → A) (before after : List A) (number : ℕ) : Type 0 where
@@ -59,7 +62,12 @@ module _ {A : Type 0} where
       })
 
   -- a call without a fault is accepted
+  pub answered-accepted : (fault n m : ℕ) (wrote vs before : List A) → fault ≡ 0 → n ≡ m → wrote ≡ vs
+      → answered fault n wrote before ≡ outcome (accepted m) (put before 0 vs)
+  unfolding answered
+  answered-accepted fault n m wrote vs before none number e = rw (none, number, e)
+
   pub written-accepted : (fault : ℕ) (wrote vs before : List A) → fault ≡ 0 → wrote ≡ vs
       → written fault wrote before ≡ outcome (accepted (length vs)) (put before 0 vs)
-  unfolding answered
-  written-accepted fault wrote vs before none e = rw (none, e)
+  written-accepted fault wrote vs before none e =
+      answered-accepted fault (length wrote) (length vs) wrote vs before none (ap length e) e
