@@ -12,7 +12,7 @@
  *  - a place lent for writing overlaps no other place of the same call, and
  *    nothing else reads or writes it during the call.
  * A length counts elements (bytes of a page, dictionary or bitmap, words of bit
- * planes, places for entries).
+ * planes, places for entries, numbers of a list of spans).
  *
  * The functions keep no state, allocate nothing and call nothing but memset:
  * several threads may call them at the same time, and so may a signal handler. A
@@ -31,8 +31,8 @@ extern "C" {
 /* ---- What all layouts share -------------------------------------------- */
 
 /* The version: major * 1000000 + minor * 1000 + patch. */
-#define CAHERMISK_VERSION 2000
-#define CAHERMISK_VERSION_TEXT "0.2.0"
+#define CAHERMISK_VERSION 3000
+#define CAHERMISK_VERSION_TEXT "0.3.0"
 
 /*
  * The version of the library that is linked: CAHERMISK_VERSION as it was when that
@@ -73,7 +73,9 @@ enum cahermisk_code {
                                              65,536 bytes, or values not strictly ascending */
     CAHERMISK_INDEX_TOO_LARGE = 15,       /* index not below the dictionary's count */
     CAHERMISK_UNNEEDED_WIDTH_NOT_0 = 16,  /* width byte of an unneeded miniblock not 0 */
-    CAHERMISK_MINIBLOCK_TOO_WIDE = 17     /* delta writer: a miniblock needs more than 32 bits */
+    CAHERMISK_MINIBLOCK_TOO_WIDE = 17,    /* delta writer: a miniblock needs more than 32 bits */
+    CAHERMISK_SPANS_MISPLACED = 18        /* spans: not ascending with a gap of at least one entry,
+                                             an end before its start, or the entry count reached */
 };
 
 /* What a code means, in words. */
@@ -99,6 +101,8 @@ static inline const char *cahermisk_code_text(uint32_t code) {
     case CAHERMISK_INDEX_TOO_LARGE: return "index not below the dictionary's count";
     case CAHERMISK_UNNEEDED_WIDTH_NOT_0: return "width byte of an unneeded miniblock not 0";
     case CAHERMISK_MINIBLOCK_TOO_WIDE: return "delta writer: a miniblock needs more than 32 bits";
+    case CAHERMISK_SPANS_MISPLACED:
+        return "spans: not ascending with a gap of at least one entry, an end before its start, or the entry count reached";
     default: return "a code that this header does not know";
     }
 }
@@ -123,7 +127,8 @@ enum cahermisk_operator {
 /*
  * The answer of every function that is lent a place, but of cahermisk_runs_next. On
  * acceptance the number is, for a scan, how many bits of the bitmap are set; for
- * unpack, n; for pack, the length written, in bytes or, for bit planes, in words.
+ * unpack, n; for pack, the length written, in bytes or, for bit planes, in words; for
+ * spans, the pairs written or the bits set.
  */
 typedef struct {
     uint32_t code;
@@ -133,7 +138,7 @@ typedef struct {
 /*
  * Bytes that a scan of n entries writes. Bit i of a bitmap is bit i mod 8,
  * lowest first, of byte i div 8.
- * This macro and those of the layouts, which say how long a page is or may be, have
+ * This macro and those below, which say how long a page or a list is or may be, have
  * a function each, for callers that have no macros: it gives the same number, but 0
  * for a width or a count beyond the limits, where every call refuses.
  */
@@ -509,6 +514,53 @@ cahermisk_answer cahermisk_dictionary_scan(const uint8_t *dict, size_t dict_len,
 cahermisk_answer cahermisk_dictionary_unpack(const uint8_t *dict, size_t dict_len,
                                              const uint8_t *page, size_t page_len, size_t n,
                                              int32_t *entries, size_t entries_len);
+
+/* ---- Spans ------------------------------------------------------------- */
+/*
+ * A span is a maximal stretch of selected entries, told by two numbers: its first
+ * entry and its last, which are the same for a stretch of one. A list of spans is
+ * these pairs one after another, ascending, each stretch once; between two of them
+ * at least one entry is not selected, or they would be one.
+ */
+
+/*
+ * Numbers that are enough for the list of any bitmap of n entries, within the limit:
+ * how many are written depends on the bitmap.
+ */
+#define CAHERMISK_SPANS_PLACES(n) (((size_t)(n) + 1) / 2 * 2)
+size_t cahermisk_spans_places(size_t n);
+
+/*
+ * Writes the spans of the first n entries of a bitmap to the first places of `spans`,
+ * and keeps the other places. The number is the pairs written, two places each.
+ * Reads the first CAHERMISK_BITMAP_BYTES(n) bytes of the bitmap. Set bits past n in the
+ * last of them and later bytes are not read: they are no fault, and a span that would
+ * go on there ends with n - 1.
+ * Refuses with the first of these that holds:
+ *   2  n above 16,384
+ *   5  bitmap_len below CAHERMISK_BITMAP_BYTES(n)
+ *   4  spans_len below twice the pairs there are; an odd length is no fault
+ */
+cahermisk_answer cahermisk_spans_from_bitmap(const uint8_t *bitmap, size_t bitmap_len, size_t n,
+                                             uint32_t *spans, size_t spans_len);
+
+/*
+ * Writes the bitmap of n entries in which just those of the spans are selected: the
+ * first CAHERMISK_BITMAP_BYTES(n) bytes, entries in no span and the unused bits of the
+ * last byte as 0; and keeps the later bytes. The number is the bits set.
+ * Of a list that is accepted, cahermisk_spans_from_bitmap gives the list again; and the
+ * list of a bitmap gives these bytes again, if its bits past n are 0.
+ * Refuses with the first of these that holds:
+ *   2  n above 16,384
+ *   5  spans_len is odd
+ *   4  bitmap_len below CAHERMISK_BITMAP_BYTES(n)
+ *   18 a span's first number is not above the last number of the span before by 2 or
+ *      more; a last number is below its first; or a number is n or above
+ * A list has no limit of its own: one too long for n entries, as of 40,000 numbers, is
+ * refused with 18 and not with 2.
+ */
+cahermisk_answer cahermisk_spans_to_bitmap(const uint32_t *spans, size_t spans_len, size_t n,
+                                           uint8_t *bitmap, size_t bitmap_len);
 
 #ifdef __cplusplus
 }

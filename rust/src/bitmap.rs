@@ -2,11 +2,16 @@
 
 mod logic;
 mod selected;
+mod spans;
+mod word;
 
 pub use selected::Selected;
+pub use spans::Spans;
 
 use alloc::vec::Vec;
+use core::ops::RangeInclusive;
 
+use crate::layout::to_bitmap;
 use crate::{horizontal, Comparison, Refusal, MAX_ENTRIES};
 
 /// Which entries a scan selected: bit i mod 8, lowest first, of byte i div 8 is set exactly if
@@ -65,6 +70,33 @@ impl Bitmap {
         horizontal::scan_to_bitmap(bytes, 1, n, Comparison::equal(1))
     }
 
+    /// The bitmap of `n` entries in which just those of the spans are selected.
+    ///
+    /// # Errors
+    ///
+    /// The first that holds of [`TooManyEntries`](Refusal::TooManyEntries);
+    /// [`SpansMisplaced`](Refusal::SpansMisplaced) where a range is empty, does not leave out at least one
+    /// entry after the range before it, or does not end before `n`.
+    ///
+    /// ```
+    /// use cahermisk::{Bitmap, Refusal};
+    ///
+    /// let selection = Bitmap::from_spans([2..=5, 9..=9], 10)?;
+    /// assert_eq!(selection.as_bytes(), [0b0011_1100, 0b10]);
+    /// assert_eq!(Bitmap::from_spans(selection.spans(), 10)?, selection);
+    /// assert_eq!(Bitmap::from_spans([2..=5, 9..=10], 10), Err(Refusal::SpansMisplaced));
+    /// # Ok::<(), Refusal>(())
+    /// ```
+    pub fn from_spans<I>(spans: I, n: usize) -> Result<Bitmap, Refusal>
+    where
+        I: IntoIterator<Item = RangeInclusive<usize>>,
+    {
+        // More than are possible below the limit are misplaced by the first that is too many.
+        let possible = spans.into_iter().take(MAX_ENTRIES / 2 + 1);
+        let list: Vec<u32> = possible.flat_map(spans::pair).collect();
+        to_bitmap(n, |bytes| crate::spans::to_bitmap(&list, n, bytes))
+    }
+
     /// The bytes that a scan of `n` entries writes, ceil(n / 8); 0 where a page may not have so many.
     ///
     /// ```
@@ -121,6 +153,20 @@ impl Bitmap {
     /// ```
     pub fn selected(&self) -> Selected<'_> {
         Selected::of(&self.bytes, self.count)
+    }
+
+    /// The maximal stretches of selected entries as ranges, ascending. [`spans`](crate::spans) has them as
+    /// a list of numbers.
+    ///
+    /// ```
+    /// use cahermisk::Bitmap;
+    ///
+    /// let selection = Bitmap::from_bytes(&[0b0011_1100, 0b1110], 12)?;
+    /// assert_eq!(selection.spans().collect::<Vec<_>>(), [2..=5, 9..=11]);
+    /// # Ok::<(), cahermisk::Refusal>(())
+    /// ```
+    pub fn spans(&self) -> Spans<'_> {
+        Spans::of(&self.bytes, self.count)
     }
 
     /// The bytes of the bitmap; unused bits of the last one are 0.

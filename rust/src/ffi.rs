@@ -3,6 +3,7 @@
 
 pub(crate) mod delta;
 pub(crate) mod dictionary;
+pub(crate) mod spans;
 
 use crate::{Comparison, Refusal};
 

@@ -9,6 +9,7 @@
 //! - [`runs`]: run streams, the RLE/bit-packing hybrid: equal entries once, others packed by eight.
 //! - [`delta`]: delta pages, signed 32-bit entries kept as deltas from one to the next.
 //! - [`dictionary`]: dictionary columns, signed 32-bit entries kept as indexes of a dictionary.
+//! - [`spans`]: the stretches of selected entries of a bitmap, and the bitmap of such stretches.
 //!
 //! A [`Comparison`] is an [`Operator`] and two constants; a scan's result is a [`Bitmap`], and two of
 //! them are joined by `&` and `|`.
@@ -26,12 +27,12 @@
 //!
 //! # Room
 //!
-//! Of a layout's functions those whose names end in `_to_vec` or `_to_bitmap` allocate their result. The
-//! others write to a place lent by the caller and allocate nothing. How much room is enough is told by
-//! `const` functions, so that it may be an array's length: [`horizontal::page_bytes`],
-//! [`vertical::page_words`], [`runs::page_bytes`], [`delta::page_bytes`], and [`Bitmap::bytes_for`] for
-//! every scan. They give 0 for what is past the limits, which every call refuses before it looks at the
-//! room.
+//! Of the functions those whose names end in `_to_vec` or `_to_bitmap` allocate their result, as those that
+//! give a [`Bitmap`] do. The others, [`spans::to_bitmap`] among them, write to a place lent by the caller and
+//! allocate nothing. How much room is enough is told by `const` functions, so that it may be an array's
+//! length: [`horizontal::page_bytes`], [`vertical::page_words`], [`runs::page_bytes`],
+//! [`delta::page_bytes`], [`spans::places`], and [`Bitmap::bytes_for`] for every bitmap. They give 0 for
+//! what is past the limits, which every call refuses before it looks at the room.
 //!
 //! # Features
 //!
@@ -68,9 +69,10 @@ mod layout;
 mod operator;
 mod refusal;
 pub mod runs;
+pub mod spans;
 pub mod vertical;
 
-pub use bitmap::{Bitmap, Selected};
+pub use bitmap::{Bitmap, Selected, Spans};
 pub use comparison::Comparison;
 pub use operator::Operator;
 pub use refusal::Refusal;

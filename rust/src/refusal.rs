@@ -75,6 +75,8 @@ refusals! {
     15 IndexTooLarge "index not below the dictionary's count",
     16 UnneededWidthNot0 "width byte of an unneeded miniblock not 0",
     17 MiniblockTooWide "delta writer: a miniblock needs more than 32 bits",
+    18 SpansMisplaced
+        "spans: not ascending with a gap of at least one entry, an end before its start, or the entry count reached",
 }
 
 impl Error for Refusal {}

@@ -5,7 +5,7 @@ use std::fs;
 use std::process::Command;
 
 use c_programs::printed_by;
-use cahermisk::{delta, horizontal, runs, vertical, Bitmap};
+use cahermisk::{delta, horizontal, runs, spans, vertical, Bitmap};
 use commands::{room, run, top, NEEDS_CC};
 
 mod c_programs;
@@ -14,8 +14,8 @@ mod commands;
 
 const NEEDS_CXX: &str = "this test needs a C++ compiler, c++, on PATH";
 
-/// The header's names with document 01's numbers, but for the codes, which data/codes.txt has.
-const NUMBERS: [(&str, u32); 26] = [
+/// The header's names with the documents' numbers, but for the codes, which data/codes.txt has.
+const NUMBERS: [(&str, u32); 29] = [
     ("CAHERMISK_EQUAL", 0),
     ("CAHERMISK_NOT_EQUAL", 1),
     ("CAHERMISK_LESS", 2),
@@ -42,6 +42,9 @@ const NUMBERS: [(&str, u32); 26] = [
     ("CAHERMISK_DELTA_BYTES(1)", 11),
     ("CAHERMISK_DELTA_BYTES(129)", 532),
     ("CAHERMISK_DELTA_BYTES(16384)", 66_699),
+    ("CAHERMISK_SPANS_PLACES(0)", 0),
+    ("CAHERMISK_SPANS_PLACES(7)", 8),
+    ("CAHERMISK_SPANS_PLACES(16384)", 16_384),
 ];
 
 /// The header's macros of room with the package's numbers, at every width and at counts about each step.
@@ -61,6 +64,7 @@ fn rooms() -> Vec<(String, String)> {
         }
         put(format!("DELTA_BYTES({n})"), delta::page_bytes(n));
         put(format!("BITMAP_BYTES({n})"), Bitmap::bytes_for(n));
+        put(format!("SPANS_PLACES({n})"), spans::places(n));
     }
     rooms
 }
@@ -98,6 +102,7 @@ static const uint8_t indexes[] = {0x00, 0x10};
 static uint8_t bitmap[CAHERMISK_BITMAP_BYTES(8)];
 static int32_t numbers[CAHERMISK_MAX_ENTRIES];
 static uint32_t entries[CAHERMISK_MAX_ENTRIES];
+static uint32_t spans[CAHERMISK_SPANS_PLACES(8)];
 int all_ends_well(void);
 int all_ends_well(void) {
     cahermisk_answer packed = cahermisk_horizontal_pack(entries, 8, 3, page, sizeof page);
@@ -121,6 +126,9 @@ int all_ends_well(void) {
         numbers, 8);
     cahermisk_answer compared = cahermisk_dictionary_scan(values, sizeof values,
         indexes, sizeof indexes, 8, CAHERMISK_LESS, -1, 0, bitmap, sizeof bitmap);
+    cahermisk_answer listed = cahermisk_spans_from_bitmap(bitmap, sizeof bitmap, 8, spans, 8);
+    cahermisk_answer filled = cahermisk_spans_to_bitmap(spans, 2 * listed.number, 8,
+        bitmap, sizeof bitmap);
     return packed.code == CAHERMISK_ACCEPTED && unpacked.number == 8
         && cahermisk_version() == CAHERMISK_VERSION && sizeof CAHERMISK_VERSION_TEXT > 5
         && *cahermisk_code_text(packed.code) == 'a'
@@ -129,6 +137,8 @@ int all_ends_well(void) {
         && cahermisk_vertical_words(3, 8) == 3
         && cahermisk_runs_bytes(3, 8) == sizeof stream
         && cahermisk_delta_bytes(8) == sizeof steps
+        && cahermisk_spans_places(8) == sizeof spans / 4
+        && listed.number < 5 && filled.code != CAHERMISK_SPANS_MISPLACED
         && scanned.code != CAHERMISK_VALUE_TOO_LARGE
         && planes.number == 3 && read.number == 8 && found.code == CAHERMISK_ACCEPTED
         && laid.number == 8 && marked.code != CAHERMISK_RUN_PAST_N

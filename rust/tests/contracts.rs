@@ -76,7 +76,7 @@ fn every_public_function_has_its_contract() {
         }
     }
     assert!(
-        all > 180 && exported >= 21,
+        all > 180 && exported >= 24,
         "{all} public functions and {exported} exported ones were found"
     );
 }

@@ -11,6 +11,7 @@ mod reader;
 mod rooms;
 mod runs;
 mod signed;
+mod spans;
 mod stress;
 mod support;
 mod vertical;

@@ -1,6 +1,6 @@
 //! The library's speed beside Rust loops for the same job, as tables for docs/BENCHMARKS.md and, in target/speed.svg,
 //! as its picture. It prints and asserts nothing about time. A layout is a module here, with its own rows, and so are
-//! bitmaps.
+//! bitmaps and spans.
 
 #![allow(
     clippy::incompatible_msrv,
@@ -17,6 +17,7 @@ mod horizontal;
 mod picture;
 mod race;
 mod runs;
+mod spans;
 mod steps;
 mod table;
 mod vertical;
@@ -42,6 +43,7 @@ fn main() -> io::Result<()> {
         dictionary::report(),
     ];
     bitmap::report();
+    spans::report();
     let target = Path::new(env!("CARGO_MANIFEST_DIR")).join("../target");
     fs::create_dir_all(&target)?;
     let drawn: Vec<_> = drawn.into_iter().flatten().collect();

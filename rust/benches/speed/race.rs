@@ -1,6 +1,6 @@
 //! Several ways to do one job: first held to one result, then timed.
 
-use std::fmt::Debug;
+use std::fmt::{Debug, Display};
 use std::hint::black_box;
 
 use crate::clock::time;
@@ -18,16 +18,16 @@ pub struct Raced<T> {
 }
 
 /// Each way has a place of its own like `room`.
-pub fn race<T>(width: u32, room: &[T], ways: &[Way<T>]) -> Raced<T>
+pub fn race<T>(row: impl Display, room: &[T], ways: &[Way<T>]) -> Raced<T>
 where
     T: Clone + Debug + PartialEq,
 {
     let mut places = vec![room.to_vec(); ways.len()];
     let numbers = ways.iter().zip(&mut places).map(|(way, place)| way(place));
     let numbers: Vec<usize> = numbers.collect();
-    assert_eq!(numbers, vec![numbers[0]; ways.len()], "width {width}");
+    assert_eq!(numbers, vec![numbers[0]; ways.len()], "row {row}");
     let written = places[0].clone();
-    assert!(places.iter().all(|p| *p == written), "width {width}");
+    assert!(places.iter().all(|p| *p == written), "row {row}");
 
     let timed = ways.iter().zip(&mut places);
     let timed = timed.map(|(way, place)| move || _ = black_box(way(black_box(place))));

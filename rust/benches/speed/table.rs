@@ -1,5 +1,7 @@
 //! Markdown tables, printed row by row as they are measured.
 
+use std::fmt::Display;
+
 use crate::clock::Taken;
 
 /// The time of each way, and the instructions that ours executes an entry, where they can be counted.
@@ -23,23 +25,33 @@ impl Table {
         widths: impl IntoIterator<Item = u32>,
         measure: impl Fn(u32) -> Measured,
     ) -> Table {
-        print_heading(title, others);
-        let mut rows = Vec::new();
-        for width in widths {
-            let measured = measure(width);
-            print_row(width, &measured);
-            rows.push((width, measured.taken));
-        }
         Table {
             title: title.to_string(),
             ways: [&["ours"], others].concat(),
-            rows,
+            rows: rows(title, "width", others, widths, measure),
         }
     }
 }
 
-fn print_heading(title: &str, others: &[&str]) {
-    let mut names = vec!["width".to_string(), "ours".to_string()];
+/// Measures each row and prints it, below a head that says what a row is. Gives the times.
+pub fn rows<R: Copy + Display>(
+    title: &str,
+    head: &str,
+    others: &[&str],
+    rows: impl IntoIterator<Item = R>,
+    measure: impl Fn(R) -> Measured,
+) -> Vec<(R, Vec<Taken>)> {
+    print_heading(title, head, others);
+    let measured = rows.into_iter().map(|row| {
+        let measured = measure(row);
+        print_row(row, &measured);
+        (row, measured.taken)
+    });
+    measured.collect()
+}
+
+fn print_heading(title: &str, head: &str, others: &[&str]) {
+    let mut names = vec![head.to_string(), "ours".to_string()];
     names.extend(others.iter().map(|other| other.to_string()));
     names.extend(others.iter().map(|other| format!("ours/{other}")));
     names.push("instructions".to_string());
@@ -47,16 +59,21 @@ fn print_heading(title: &str, others: &[&str]) {
     println!("|{}", "--:|".repeat(names.len()));
 }
 
-fn print_row(width: u32, measured: &Measured) {
+/// Two digits behind the point, or three where the first is 0.
+fn short(number: f64) -> String {
+    let digits = if number < 0.095 { 3 } else { 2 };
+    format!("{number:.digits$}")
+}
+
+fn print_row(row: impl Display, measured: &Measured) {
     let taken = &measured.taken;
     let times = taken
         .iter()
-        .map(|t| format!("{:.2} ({:.2})", t.median, t.least));
+        .map(|t| format!("{} ({})", short(t.median), short(t.least)));
     let ratios = taken[1..]
         .iter()
         .map(|t| format!("{:.2}", t.median / taken[0].median));
-    let counted = measured.instructions;
-    let counted = counted.map_or("-".to_string(), |count| format!("{count:.2}"));
+    let counted = measured.instructions.map_or("-".to_string(), short);
     let cells: Vec<String> = times.chain(ratios).chain([counted]).collect();
-    println!("| {width} | {} |", cells.join(" | "));
+    println!("| {row} | {} |", cells.join(" | "));
 }

@@ -2,6 +2,8 @@
 
 use core::iter::FusedIterator;
 
+use super::word::Word;
+
 /// The numbers of the selected entries of a [`Bitmap`](crate::Bitmap), ascending.
 #[derive(Clone, Debug)]
 #[must_use = "iterators are lazy and do nothing unless consumed"]
@@ -11,27 +13,6 @@ pub struct Selected<'a> {
     left: usize,
     front: Word,
     back: Word,
-}
-
-/// 64 entries, and which of them are selected and not yet given.
-#[derive(Clone, Copy, Debug, Default)]
-struct Word {
-    /// The number of the entry of bit 0.
-    first: usize,
-    bits: u64,
-}
-
-impl Word {
-    /// The entries from `first` on, a multiple of 64; past the bitmap's end none is selected.
-    #[inline]
-    fn at(bytes: &[u8], first: usize) -> Option<Word> {
-        let rest = bytes.get(first / 8..)?;
-        let bits = match rest.first_chunk() {
-            Some(&whole) => u64::from_le_bytes(whole),
-            None => rest.iter().rfold(0, |bits, &b| bits << 8 | u64::from(b)),
-        };
-        Some(Word { first, bits })
-    }
 }
 
 impl Selected<'_> {
@@ -54,7 +35,7 @@ impl Iterator for Selected<'_> {
     fn next(&mut self) -> Option<usize> {
         self.left = self.left.checked_sub(1)?;
         while self.front.bits == 0 {
-            self.front = Word::at(self.bytes, self.front.first + 64)?;
+            self.front = self.front.after(self.bytes)?;
         }
         let Word { first, bits } = self.front;
         self.front.bits = bits & (bits - 1);

@@ -15,6 +15,7 @@ static void of_count(size_t n) {
     int within = n <= CAHERMISK_MAX_ENTRIES;
     compare(cahermisk_bitmap_bytes(n), CAHERMISK_BITMAP_BYTES(n), within);
     compare(cahermisk_delta_bytes(n), CAHERMISK_DELTA_BYTES(n), within);
+    compare(cahermisk_spans_places(n), CAHERMISK_SPANS_PLACES(n), within);
 }
 static void of_both(uint32_t width, size_t n) {
     int within = width <= CAHERMISK_MAX_WIDTH && n <= CAHERMISK_MAX_ENTRIES;
@@ -42,7 +43,7 @@ int main(void) {
 #[test]
 fn functions_give_what_macros_give() {
     let (counts, widths) = (16_386, 34);
-    let compared = counts * (2 + 3 * (widths + 2)) + 4 * (2 + 3 * widths);
+    let compared = counts * (3 + 3 * (widths + 2)) + 4 * (3 + 3 * widths);
     let printed = printed_by("rooms", PROGRAM);
     assert_eq!(printed, format!("{compared} compared, 0 different\n"));
 }

@@ -31,7 +31,7 @@ static uint8_t bitmap[CAHERMISK_BITMAP_BYTES(N)], page[CAHERMISK_HORIZONTAL_BYTE
 static uint8_t stream[CAHERMISK_RUNS_BYTES(WIDTH, N)], steps[CAHERMISK_DELTA_BYTES(N)];
 static uint8_t dict[4 * VALUES], column[1 + sizeof stream];
 static uint64_t words[CAHERMISK_VERTICAL_WORDS(WIDTH, N)];
-static size_t streamed, stepped;
+static size_t streamed, stepped, spanned;
 static uint32_t code;
 #define BAND CAHERMISK_BETWEEN, 100, 300, bitmap, sizeof bitmap
 static void nothing(void) { code = 0; }
@@ -78,6 +78,14 @@ static void dictionary_scan(void) {
 static void dictionary_unpack(void) {
     code = cahermisk_dictionary_unpack(dict, sizeof dict, column, 1 + streamed, N, numbers, N).code;
 }
+static void spans_from_bitmap(void) {
+    cahermisk_answer answer = cahermisk_spans_from_bitmap(bitmap, sizeof bitmap, N, entries, N);
+    code = answer.code;
+    spanned = 2 * answer.number;
+}
+static void spans_to_bitmap(void) {
+    code = cahermisk_spans_to_bitmap(entries, spanned, N, bitmap, sizeof bitmap).code;
+}
 #define CALL(name) \\
     printf(\"%s %zu %u\\n\", #name, taken(name) - before, (unsigned)code)
 int main(void) {
@@ -96,6 +104,7 @@ int main(void) {
     column[0] = WIDTH;
     memcpy(column + 1, stream, streamed);
     CALL(dictionary_scan); CALL(dictionary_unpack);
+    CALL(spans_from_bitmap); CALL(spans_to_bitmap);
     printf(\"%d\\n\", CAHERMISK_STACK_BYTES);
     return 0;
 }
@@ -107,7 +116,7 @@ fn each_call_takes_no_more_than_the_header_says() {
     let mut lines: Vec<&str> = printed.lines().collect();
     let most = lines.pop().expect("the header's number");
     let most: usize = most.parse().expect("a number");
-    assert_eq!(lines.len(), 15, "functions that were called");
+    assert_eq!(lines.len(), 17, "functions that were called");
     for line in lines {
         let cells: Vec<&str> = line.split(' ').collect();
         let [name, taken, code] = cells[..] else {

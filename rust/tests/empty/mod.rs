@@ -193,6 +193,30 @@ fn delta_pages() {
 }
 
 #[test]
+fn spans() {
+    let [mut lists, mut bitmaps] = [(); 2].map(|()| Tally::default());
+    let held: [&[u8]; 2] = [&[], &[0x5A]];
+    for ((bitmap, n), room) in pairs(&pairs(&held, &COUNTS), &ROOMS) {
+        lists.same_left(room, |empty, list| {
+            let (from, to) = (empty.read(bitmap), empty.written(list));
+            // SAFETY: each place is valid for its length; with length 0 it may be null.
+            unsafe { cahermisk_spans_from_bitmap(from, bitmap.len(), n, to, list.len()) }
+        });
+    }
+    let held: [&[u32]; 4] = [&[], &[0], &[0, 0], &[2, 1]];
+    for ((list, n), room) in pairs(&pairs(&held, &COUNTS), &ROOMS) {
+        bitmaps.same_left(room, |empty, bitmap| {
+            let (from, to) = (empty.read(list), empty.written(bitmap));
+            // SAFETY: as above.
+            unsafe { cahermisk_spans_to_bitmap(from, list.len(), n, to, bitmap.len()) }
+        });
+    }
+    for tally in [lists, bitmaps] {
+        tally.finish();
+    }
+}
+
+#[test]
 fn dictionary_columns() {
     let [mut scans, mut unpacks] = [(); 2].map(|()| Tally::default());
     let dicts: [&[u8]; 2] = [&[], &[7, 0, 0, 0]];

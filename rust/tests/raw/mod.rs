@@ -140,6 +140,24 @@ extern "C" {
     ) -> Answer;
 }
 
+extern "C" {
+    pub fn cahermisk_spans_from_bitmap(
+        bitmap: *const u8,
+        bitmap_len: usize,
+        n: usize,
+        spans: *mut u32,
+        spans_len: usize,
+    ) -> Answer;
+
+    pub fn cahermisk_spans_to_bitmap(
+        spans: *const u32,
+        spans_len: usize,
+        n: usize,
+        bitmap: *mut u8,
+        bitmap_len: usize,
+    ) -> Answer;
+}
+
 // How many places to lend.
 extern "C" {
     pub fn cahermisk_bitmap_bytes(n: usize) -> usize;
@@ -147,4 +165,5 @@ extern "C" {
     pub fn cahermisk_vertical_words(width: u32, n: usize) -> usize;
     pub fn cahermisk_runs_bytes(width: u32, n: usize) -> usize;
     pub fn cahermisk_delta_bytes(n: usize) -> usize;
+    pub fn cahermisk_spans_places(n: usize) -> usize;
 }

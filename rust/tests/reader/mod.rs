@@ -1,5 +1,5 @@
-//! The second reader: the rules of document 01 over again, bit by bit and with no thought of speed.
-//! It is written from that document alone and shares no code with the library or the package.
+//! The second reader: the rules of documents 01 and 02 over again, bit by bit and with no thought of speed.
+//! It is written from those documents alone and shares no code with the library or the package.
 
 pub mod bare;
 pub mod calls;
@@ -9,6 +9,7 @@ pub mod horizontal;
 pub mod numbers;
 pub mod runs;
 pub mod signed;
+pub mod spans;
 pub mod vertical;
 
 /// What a call must leave behind: its answer, and all that the place lent for writing holds.
@@ -39,7 +40,7 @@ pub fn accepted<T: Copy>(number: usize, written: &[T], lent: &[T]) -> Outcome<T>
     }
 }
 
-/// What a page is a list of: bytes, or words of 64 bits.
+/// What a page is a list of: bytes, or words of 64 bits; or a list of spans, numbers of 32.
 pub trait Unit: Copy {
     const BITS: usize;
 
@@ -58,6 +59,18 @@ impl Unit for u8 {
 
     fn of(number: u64) -> u8 {
         number as u8
+    }
+}
+
+impl Unit for u32 {
+    const BITS: usize = 32;
+
+    fn number(self) -> u64 {
+        self.into()
+    }
+
+    fn of(number: u64) -> u32 {
+        number as u32
     }
 }
 

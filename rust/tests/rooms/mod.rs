@@ -53,6 +53,12 @@ fn run_streams() {
     of_width(cahermisk_runs_bytes, bytes);
 }
 
+/// A pair for every other entry.
+#[test]
+fn spans() {
+    of_count(cahermisk_spans_places, |n| 2 * n.div_ceil(2));
+}
+
 /// A header, and of each block the smallest delta, four widths and four bodies.
 #[test]
 fn delta_pages() {

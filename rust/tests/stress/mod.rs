@@ -1,8 +1,9 @@
-//! Random and damaged pages of all layouts for some minutes, each call beside the second reader: `make stress`.
+//! Random and damaged pages of all layouts, and spans, for some minutes, each call beside the second reader: `make stress`.
 //! Not in the gate. The same seed makes the same calls of each layout, as many as there is time for.
 
 mod damage;
 mod signed;
+mod spans;
 mod tally;
 mod unsigned;
 
@@ -26,12 +27,13 @@ const TURN: Duration = Duration::from_millis(20);
 /// One page of a layout, good or damaged, and calls with it.
 type Trial = fn(&mut Calls, &mut Tally);
 
-const LAYOUTS: [(&str, Trial); 5] = [
+const LAYOUTS: [(&str, Trial); 6] = [
     ("horizontal", unsigned::trial::<Horizontal>),
     ("vertical", unsigned::trial::<Vertical>),
     ("runs", unsigned::trial_of_runs),
     ("delta", signed::trial_of_delta),
     ("dictionary", signed::trial::<Dictionary>),
+    ("spans", spans::trial),
 ];
 
 /// The seed asked for, or else one from the clock.

@@ -7,12 +7,12 @@ use cahermisk::{horizontal, Bitmap, Comparison, Refusal, MAX_ENTRIES};
 use crate::random::Random;
 
 /// Lengths below three words, and those about the limit.
-fn lengths() -> impl Iterator<Item = usize> {
+pub fn lengths() -> impl Iterator<Item = usize> {
     (0..200).chain([16_319, 16_320, 16_383, MAX_ENTRIES])
 }
 
 /// Selections of so many entries: none, all, one in a hundred, and one in two.
-fn selections(n: usize) -> Vec<Vec<bool>> {
+pub fn selections(n: usize) -> Vec<Vec<bool>> {
     let mut random = Random::new("bitmaps");
     let seldom = (0..n).map(|_| random.once_in(100)).collect();
     let often = (0..n).map(|_| random.once_in(2)).collect();
@@ -26,7 +26,7 @@ fn bytes(selection: &[bool]) -> Vec<u8> {
 }
 
 /// The bitmap of a selection as a scan gives it.
-fn bitmap(selection: &[bool]) -> Bitmap {
+pub fn bitmap(selection: &[bool]) -> Bitmap {
     let entries: Vec<u32> = selection.iter().copied().map(u32::from).collect();
     let page = horizontal::pack_to_vec(&entries, 5).expect("entries of 5 bits");
     horizontal::scan_to_bitmap(&page, 5, entries.len(), Comparison::equal(1)).expect("good")

@@ -10,6 +10,7 @@ mod refusals;
 mod results;
 mod rooms;
 mod runs;
+mod spans;
 
 #[path = "../support/random.rs"]
 #[allow(dead_code, reason = "the library's tests use all of it")]

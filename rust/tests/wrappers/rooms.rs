@@ -1,7 +1,9 @@
 //! Room functions: what a writer takes of the room that they tell, and 0 past the limits. The header's
 //! macros are held to them where C is compiled.
 
-use cahermisk::{delta, horizontal, runs, vertical, Bitmap, Refusal, MAX_ENTRIES, MAX_WIDTH};
+use cahermisk::{
+    delta, horizontal, runs, spans, vertical, Bitmap, Refusal, MAX_ENTRIES, MAX_WIDTH,
+};
 
 use crate::layout::Pack;
 use crate::random::Random;
@@ -83,6 +85,17 @@ fn a_bitmap_takes_all_of_its_room() {
     }
 }
 
+/// Every other entry from the first on takes all of the room.
+#[test]
+fn the_most_spans_take_all_of_their_room() {
+    for n in COUNTS {
+        let mut list = vec![99; spans::places(n)];
+        let bitmap = vec![0b0101_0101; n.div_ceil(8)];
+        let pairs = spans::from_bitmap(&bitmap, n, &mut list);
+        assert_eq!(pairs.map(|pairs| 2 * pairs), Ok(list.len()));
+    }
+}
+
 #[test]
 fn there_is_no_room_past_the_limits() {
     let wide = [MAX_WIDTH + 1, 259, u32::MAX].map(|width| (width, 8));
@@ -94,5 +107,6 @@ fn there_is_no_room_past_the_limits() {
     }
     for (_, n) in many {
         assert_eq!((delta::page_bytes(n), Bitmap::bytes_for(n)), (0, 0));
+        assert_eq!(spans::places(n), 0);
     }
 }
