@@ -116,6 +116,16 @@ impl Line {
         self.words(&blanks[0..k])
     }
 
+    // Writes what is laid out so far, and gives back an empty line in which it goes on.
+    pub fn part(self, fd: i32) -> Line
+        ensures { λ r. ⌜ held r ≡ [] ⌝ }
+    {
+        let text = self.text;
+        let all: &[u8; 120] = &text;
+        let is_taken = written_front(fd, all, self.used);
+        Line::behind(self.lost || !is_taken)
+    }
+
     // Writes the line, and gives back the next one, empty.
     pub fn write(self, fd: i32) -> Line
         ensures { λ r. ⌜ held r ≡ [] ⌝ }

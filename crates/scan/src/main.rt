@@ -4,6 +4,7 @@ mod column;
 mod keeping;
 mod listing;
 mod same_file;
+mod stretches;
 mod telling;
 
 use scan_says::Sentence;

@@ -7,6 +7,8 @@ use scan_day::passing::Passed;
 use scan_day::picture;
 use scan_says::Sentence;
 use scan_says::tell;
+use scan_stretches::going::Going;
+use scan_stretches::told::in_stretches;
 use words::counts::min;
 
 // Where a column stands: the number of its first day, and its seconds counted from that day's beginning. Pages
@@ -21,6 +23,17 @@ pub struct Span {
 // The sentence alone, beside numbers on standard output.
 pub fn summed_up(span: Span, passed: Passed) {
     picture::sentence(span.day, passed).write(STDERR_FILENO);
+}
+
+// The same beside stretches, with how many there are.
+pub fn summed_up_in_stretches(span: Span, passed: Passed, going: Going) {
+    let line = picture::sentence(span.day, passed);
+    if passed.count == 0 {
+        line.write(STDERR_FILENO);
+        return;
+    }
+    line.part(STDERR_FILENO);
+    in_stretches(going.count, going.gap).write(STDERR_FILENO);
 }
 
 pub fn drawn(span: Span, passed: Passed, answered: &[u32; CELLS], selected: &[u32; CELLS]) {

@@ -69,7 +69,7 @@ impl Passed {
     }
 }
 
-fn one_more(x: usize) -> usize
+pub fn one_more(x: usize) -> usize
     ensures { λ r. ⌜ r ≡ more x ⌝ }
 {
     if x < usize::MAX { x + 1 } else { x }

@@ -9,9 +9,11 @@ use scan_says::tell;
 use scan_words::names::BITMAP;
 use scan_words::names::DAY;
 use scan_words::names::ENTRIES;
+use scan_words::names::JOIN;
 use scan_words::names::LAST;
 use scan_words::names::NO_OPTION;
 use scan_words::names::NUMBERS;
+use scan_words::names::SPANS;
 use scan_words::names::START;
 use scan_words::names::WIDTH;
 use scan_words::names::is_option;
@@ -39,6 +41,9 @@ pub struct Asked {
     pub bitmap: usize,
     pub bitmap_from: usize,
     pub numbers: bool,
+    pub spans: bool,
+    // gaps of up to so many seconds are closed: 0 where none is
+    pub join: u32,
     // after `--` no word is an option
     is_ended: bool,
     // the option whose number or name comes next
@@ -68,6 +73,8 @@ impl Asked {
             bitmap: 0,
             bitmap_from: 0,
             numbers: false,
+            spans: false,
+            join: 0,
             is_ended: false,
             waits: NO_OPTION,
             words: 0,
@@ -108,6 +115,8 @@ impl Asked {
             START => self.has_start,
             DAY => self.has_day,
             BITMAP => self.bitmap != 0,
+            SPANS => self.spans,
+            JOIN => self.join != 0,
             _ => self.numbers,
         }
     }
@@ -173,11 +182,11 @@ fn opened(mut asked: Asked, at: usize, word: &[u8]) -> Asked
     if end < word.len() {
         return value(asked, named, at, end + 1, &word[end + 1..]);
     }
-    if named == NUMBERS {
-        asked.numbers = true;
-        return asked;
+    match named {
+        NUMBERS => asked.numbers = true,
+        SPANS => asked.spans = true,
+        _ => asked.waits = named,
     }
-    asked.waits = named;
     asked
 }
 
@@ -187,7 +196,7 @@ fn value(asked: Asked, option: u32, at: usize, from: usize, word: &[u8]) -> Aske
 {
     match option {
         BITMAP => file(asked, at, from, word.len()),
-        NUMBERS => asked.spoiled(Sentence::Takes(at, NUMBERS)),
+        NUMBERS | SPANS => asked.spoiled(Sentence::Takes(at, option)),
         START => time(asked, at, word),
         _ => number(asked, option, at, word),
     }
@@ -238,6 +247,7 @@ fn number(mut asked: Asked, option: u32, at: usize, word: &[u8]) -> Asked
             asked.last = n;
             asked.has_last = true;
         }
+        JOIN => asked.join = n,
         _ => {
             asked.day = n;
             asked.has_day = true;
@@ -252,11 +262,12 @@ fn is_within(option: u32, n: u32) -> bool {
         WIDTH => n <= 32,
         ENTRIES => n <= 16777216,
         LAST => n <= 16384,
+        JOIN => 1 <= n && n <= 86400,
         _ => 1 <= n && n <= 99999,
     }
 }
 
-// No option may be left without what it takes, and the entries are told once.
+// No option may be left without what it takes, the entries are told once, and one list is written.
 fn finished(asked: Asked) -> Asked
     ensures { λ r. ⌜ r .words ≡ asked .words ⌝ }
 {
@@ -269,6 +280,12 @@ fn finished(asked: Asked) -> Asked
     }
     if asked.has_entries && asked.has_last {
         return asked.spoiled(Sentence::TwoCounts);
+    }
+    if asked.numbers && asked.spans {
+        return asked.spoiled(Sentence::TwoLists);
+    }
+    if asked.join != 0 && !asked.spans {
+        return asked.spoiled(Sentence::LoneJoin);
     }
     asked
 }

@@ -12,8 +12,10 @@ use scan_day::seconds;
 use scan_words::names::BITMAP;
 use scan_words::names::DAY;
 use scan_words::names::ENTRIES;
+use scan_words::names::JOIN;
 use scan_words::names::LAST;
 use scan_words::names::NUMBERS;
+use scan_words::names::SPANS;
 use scan_words::names::WIDTH;
 
 // Where nothing else is said, a number is a word's place on the command line.
@@ -29,6 +31,8 @@ pub enum Sentence {
     // the place of what is not taken, 0 where there is nothing, and the option
     Takes(usize, u32),
     TwoCounts,
+    TwoLists,
+    LoneJoin,
     NoWidth,
     OwnWidths,
     // of the comparison
@@ -125,7 +129,7 @@ pub fn help() -> bool
 pub fn version() -> bool
     ensures { λ r. ⌜ r ≡ false ⌝ }
 {
-    if io::write_all(STDOUT_FILENO, b"scan 0.2.0\n") {
+    if io::write_all(STDOUT_FILENO, b"scan 0.3.0\n") {
         return false;
     }
     tell(Sentence::Unwritten)
@@ -144,6 +148,12 @@ fn tell_of_options(sentence: Sentence) {
         Sentence::Takes(at, option) => takes(at, option),
         Sentence::TwoCounts => say(
             b"scan: --entries and --last both say how many entries there are: leave one of them out.",
+        ),
+        Sentence::TwoLists => say(
+            b"scan: --numbers and --spans both write standard output: leave one of them out.",
+        ),
+        Sentence::LoneJoin => say(
+            b"scan: --join closes gaps between the stretches that --spans prints: add --spans.",
         ),
         Sentence::NoWidth => say(
             b"scan: this layout needs the width of its entries: add --width and 0 to 32.",
@@ -259,6 +269,8 @@ fn takes(at: usize, option: u32) {
         LAST => say(b": --last takes a whole number from 0 to 16384, the entries of a full page."),
         BITMAP => say(b": --bitmap takes the name of a file."),
         NUMBERS => say(b": --numbers takes nothing behind it."),
+        SPANS => say(b": --spans takes nothing behind it."),
+        JOIN => say(b": --join takes a whole number from 1 to 86400, the seconds of a day."),
         DAY => say(b": --day takes a whole number from 1 to 99999."),
         _ => say(b": --start takes a time from 00:00:00 to 23:59:59."),
     }
@@ -390,6 +402,8 @@ fn options(fd: i32) -> bool {
         \x20 --day N           its day, 1 if not given\n\
         \x20 --bitmap FILE     writes the bitmap of all pages there\n\
         \x20 --numbers         the numbers of the selected seconds instead of the picture\n\
+        \x20 --spans           the stretches of selected seconds instead: first, last and length\n\
+        \x20 --join N          closes gaps of up to N seconds between them; the lengths hold the gaps\n\
         \x20 --help, -h        this text\n\
         \x20 --version         the program's version\n",
     )

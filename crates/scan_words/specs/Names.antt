@@ -37,7 +37,7 @@ unfoldable pub layouts : List (List ℕ)
 layouts = words (ascii "horizontal planes runs delta dictionary help")
 
 unfoldable pub options : List (List ℕ)
-options = words (ascii "--width --entries --last --bitmap --numbers --start --day")
+options = words (ascii "--width --entries --last --bitmap --numbers --start --day --spans --join")
 
 -- asked for instead of a scan
 unfoldable pub insteads : List (List ℕ)

@@ -42,7 +42,11 @@ pub const START: u32 = 5;
 
 pub const DAY: u32 = 6;
 
-pub const NO_OPTION: u32 = 7;
+pub const SPANS: u32 = 7;
+
+pub const JOIN: u32 = 8;
+
+pub const NO_OPTION: u32 = 9;
 
 pub const VERSION: u32 = 0;
 
@@ -125,7 +129,7 @@ pub fn option(word: &[u8]) -> u32
 {
     place_in(
         word,
-        b"--width --entries --last --bitmap --numbers --start --day",
+        b"--width --entries --last --bitmap --numbers --start --day --spans --join",
     )
 }
 

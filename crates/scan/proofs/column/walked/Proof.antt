@@ -7,11 +7,11 @@ use Rattle.scan.proofs.column.walked.Statement.{statement}
 use Rattle.scan.proofs.column.walked.Tie as tie
 
 abbrev Inv-loop : tie.InvT-loop
-Inv-loop q from entries dictionary files bitmap₀ selected₀ answered₀ so-far₀ k₀ bitmap selected answered so-far k =
+Inv-loop q column dictionary files bitmap₀ selected₀ answered₀ so-far₀ k₀ bitmap selected answered so-far k =
     (length files < 18446744073709551616) × (length bitmap ≡ length bitmap₀)
 
 abbrev μ-loop : tie.MeasureT-loop
-μ-loop q from entries dictionary files bitmap₀ selected₀ answered₀ so-far₀ k₀ bitmap selected answered so-far k =
+μ-loop q column dictionary files bitmap₀ selected₀ answered₀ so-far₀ k₀ bitmap selected answered so-far k =
     length files - k
 
 pub walked-spec : {M : Type 1} → statement M
