@@ -49,7 +49,7 @@ pub fn answered(
         entries: entries,
     };
     let after = walked(
-        nothing_passed(asked),
+        nothing_passed(asked, entries),
         q,
         column,
         dictionary,
@@ -110,12 +110,13 @@ struct SoFar {
     stretches: Listing,
 }
 
-fn nothing_passed(asked: Asked) -> SoFar {
+fn nothing_passed(asked: Asked, entries: u32) -> SoFar {
+    let end = asked.start as usize + entries as usize;
     SoFar {
         passed: Passed::new(),
         has_numbers: asked.numbers,
         has_stretches: asked.spans,
-        stretches: begun(asked.join),
+        stretches: begun(asked.join, 86400 < end),
     }
 }
 

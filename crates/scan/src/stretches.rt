@@ -27,6 +27,7 @@ pub fn ended(listing: Listing, span: Span) -> Listing {
     let going = lost.going;
     let after = Listing {
         going: going,
+        has_days: lost.has_days,
         is_written: is_written,
     };
     told(lost.is_written, after)

@@ -13,6 +13,8 @@ use words::counts::min;
 
 pub struct Listing {
     pub going: Going,
+    // has the column several days
+    pub has_days: bool,
     // was every line taken; behind one that was not, no other is written
     pub is_written: bool,
 }
@@ -20,19 +22,21 @@ pub struct Listing {
 // Numbers of a page's stretches, two for each: at most one for an entry.
 const PLACES: usize = 16384;
 
-// At the beginning of a column, in which gaps of up to so many seconds are closed.
-pub fn begun(gap: u32) -> Listing
+// At the beginning of a column, of one day or several, in which gaps of up to so many seconds are closed.
+pub fn begun(gap: u32, has_days: bool) -> Listing
     ensures { λ r. ⌜ r .going ≡ fresh gap ⌝ }
 {
     let going = Going::new(gap as usize);
     Listing {
         going: going,
+        has_days: has_days,
         is_written: true,
     }
 }
 
-fn is_line_written(day: u32, going: Going, may_end_later: bool) -> bool {
+fn is_line_written(has_days: bool, day: u32, going: Going, may_end_later: bool) -> bool {
     let line = told::stretch(
+        has_days,
         day,
         going.first,
         going.behind,
@@ -54,7 +58,7 @@ pub fn ended(listing: Listing, day: u32, may_end_later: bool) -> bool
     if !going.is_open {
         return true;
     }
-    is_line_written(day, going, may_end_later)
+    is_line_written(listing.has_days, day, going, may_end_later)
 }
 
 // The next stretch, from entry `first` to entry `last`, which are counted from second `start` on.
@@ -68,11 +72,13 @@ fn pair_passed(listing: Listing, day: u32, start: usize, first: u32, last: u32) 
     if going.reaches(second) {
         return Listing {
             going: next,
+            has_days: listing.has_days,
             is_written: listing.is_written,
         };
     }
     Listing {
         going: next,
+        has_days: listing.has_days,
         is_written: ended(listing, day, false),
     }
 }
@@ -114,6 +120,7 @@ pub fn page_lost(before: Listing, day: u32, start: usize, end: usize) -> Listing
     let next = going.loses(end);
     Listing {
         going: next,
+        has_days: before.has_days,
         is_written: ended(before, day, going.reaches(start)),
     }
 }

@@ -5,7 +5,8 @@ ghost use mathlib.Core.Bool.{cond};
 ghost use Prim.Native.Nat.{_-_};
 ghost use lib.Dec.{eqb};
 ghost use Rattle.lines.specs.Text.{held, laid};
-ghost use Rattle.scan_stretches.specs.Told.{behindTime, stretchOf, gapsClosed, inStretches};
+ghost use Rattle.scan_stretches.specs.Told.{firstDay, timeOf, behindTime, stretchOf};
+ghost use Rattle.scan_stretches.specs.Told.{gapsClosed, inStretches};
 use lines::Line;
 use scan_day::clocks::clock;
 
@@ -14,6 +15,30 @@ pub fn seconds(from: usize, to: usize) -> usize
     ensures { λ r. ⌜ r ≡ to - from ⌝ }
 {
     if to <= from { 0 } else { to - from }
+}
+
+// The first day, which a time leaves out, where a column has several.
+fn first_day(line: Line, day: u64, has_days: bool) -> Line
+    ensures { λ r. ⌜ held r ≡ laid (held line) (firstDay «has_days» day) ⌝ }
+{
+    if !has_days {
+        return line.words(b"");
+    }
+    if day == 1 {
+        return line.words(b" of day 1");
+    }
+    line.words(b"")
+}
+
+// A second by the clock, with its day where the column has several.
+fn time(line: Line, day: u32, second: usize, has_days: bool) -> Line
+    ensures { λ r. ⌜ held r ≡ laid (held line) (timeOf «has_days» day second) ⌝ }
+{
+    first_day(
+        clock(line, day, second),
+        day as u64 + (second / 86400) as u64,
+        has_days,
+    )
 }
 
 // What stands behind a time: `?` where the stretch may go on there, since no page answered for that.
@@ -26,8 +51,10 @@ fn behind_time(line: Line, may_go_on: bool) -> Line
     line.words(b"  ")
 }
 
-// The line of a stretch from second `first` to before second `behind`; the column begins on a day.
+// The line of a stretch from second `first` to before second `behind`; the column begins on a day, and may
+// have several.
 pub fn stretch(
+    has_days: bool,
     day: u32,
     first: usize,
     behind: usize,
@@ -35,10 +62,13 @@ pub fn stretch(
     may_end_later: bool,
 ) -> Line
     ensures { λ r. ⌜ held r
-        ≡ laid [] (stretchOf day first behind «may_begin_earlier» «may_end_later») ⌝ }
+        ≡ laid [] (stretchOf «has_days» day first behind «may_begin_earlier» «may_end_later») ⌝ }
 {
-    let begun = behind_time(clock(Line::new(), day, first), may_begin_earlier);
-    let ended = behind_time(clock(begun, day, seconds(1, behind)), may_end_later);
+    let begun = behind_time(time(Line::new(), day, first, has_days), may_begin_earlier);
+    let ended = behind_time(
+        time(begun, day, seconds(1, behind), has_days),
+        may_end_later,
+    );
     ended.number(seconds(first, behind) as u64).words(b" s\n")
 }
 

@@ -47,8 +47,10 @@ pub record Next (c : tie.At-loop Inv-loop μ-loop) (x : ℕ) : Type 0 where
   pub count : let l = c .loop in
       l .at + ones (bitXor x (x % 2 ^ 63 * 2 + l .at % 2))
       ≡ length (turned (test (c .before .before .before)) (64 * l .q + 64) 0)
-  pub room : let l = c .loop in
-      l .at + ones (bitXor x (x % 2 ^ 63 * 2 + l .at % 2)) ≤ length (c .before .before .before .args .places .now)
+  -- what `put_turns` asks of them
+  pub asked : let l = c .loop in
+      (64 * l .q ≤ 16384) × (l .at % 2 ≤ 64 * l .q)
+      × (l .at + ones (bitXor x (x % 2 ^ 63 * 2 + l .at % 2)) ≤ length (l .places))
 
 next : (c : tie.At-loop Inv-loop μ-loop) (x : ℕ)
     → x ≡ word 64 (λ j. test (c .before .before .before) (64 * c .loop .q + j)) → Next c x
@@ -66,7 +68,11 @@ next c x is =
           ap (λ (b : Bool). edgesOf b 64 (64 * l .q) (bitXor x (x % 2 ^ 63 * 2 + l .at % 2))) open-is
           ∙ turns-edges t (64 * l .q) x (l .at % 2) is (carry c);
       count = count;
-      room = omega (arith, count, s .pre .2, turned-within (s .args .bitmap .now) (s .args .n) (64 * l .q + 64));
+      asked = (
+        omega (arith, l .inv .0, s .pre .0),
+        omega (arith, carry c, front-le t (64 * l .q)),
+        omega (arith, count, s .pre .2, l .inv .3, turned-within (s .args .bitmap .now) (s .args .n) (64 * l .q + 64)),
+      );
     }
 
 whole : (c : tie.After-load8 Inv-loop μ-loop) → Next (c .before .before) (c .load8 .result)
@@ -77,16 +83,6 @@ whole c =
     next m (c .load8 .result)
     (selected-whole (a .bitmap .now) (λ i. k .shared-slice-known .given i .fits) (a .n) (m .loop .q) (c .load8 .result)
     (omega arith) (c .load8 .ensures) (omega (arith, c .before .loop-test .taken)))
-
-put-turns-requires : tie.Need-put-turns-requires Inv-loop μ-loop
-put-turns-requires c κs =
-    let m = c .before .before .before in
-    let t = test (m .before .before .before) in (
-      omega arith,
-      omega (arith, carry m, front-le t (64 * m .loop .q)),
-      omega
-          (arith, whole (c .before) .room, m .loop .inv .3),
-    )
 
 loop-again : tie.Need-loop-again Inv-loop μ-loop
 loop-again c =
@@ -101,7 +97,8 @@ loop-again c =
       rw at (e .put-turns .ensures .0 ∙ n .count),
       rw at
           (turned-put (test s) (64 * l .q) (s .args .places .now) (l .inv .2) (l .inv .1)
-          (e .put-turns .ensures .1 ∙ ap (put (l .places) (l .at)) (n .edges)) (omega (arith, n .count, n .room))),
+          (e .put-turns .ensures .1 ∙ ap (put (l .places) (l .at)) (n .edges))
+          (omega (arith, n .count, n .asked .2, l .inv .3))),
       e .put-turns .kept .1 .1 .0 ∙ l .inv .3,
     )
 
@@ -112,16 +109,6 @@ last c =
     let s = m .before .before .before in
     let q : s .args .n / 64 ≡ m .loop .q = omega (arith, m .loop .inv .0, c .before .loop-test .left) in
     next m (c .last-word .result) (c .last-word .ensures ∙ ap (λ (q : ℕ). word 64 (λ j. test s (64 * q + j))) q)
-
-put-turns-requires-2 : tie.Need-put-turns-requires-2 Inv-loop μ-loop
-put-turns-requires-2 c κs =
-    let m = c .before .before .before in
-    let t = test (m .before .before .before) in (
-      omega arith,
-      omega (arith, carry m, front-le t (64 * m .loop .q)),
-      omega
-          (arith, last (c .before) .room, m .loop .inv .3),
-    )
 
 returns : tie.Need-returns Inv-loop μ-loop
 returns c =
@@ -135,7 +122,8 @@ returns c =
     turned-spans (s .args .bitmap .now) (s .args .n) (64 * l .q + 64) (omega (arith, f .before .loop-test .left)) in (
       e .put-turns2 .ensures .0 ∙ n .count ∙ ap length all,
       turned-put (test s) (64 * l .q) (s .args .places .now) (l .inv .2) (l .inv .1)
-          (e .put-turns2 .ensures .1 ∙ ap (put (l .places) (l .at)) (n .edges)) (omega (arith, n .count, n .room))
+          (e .put-turns2 .ensures .1 ∙ ap (put (l .places) (l .at)) (n .edges))
+          (omega (arith, n .count, n .asked .2, l .inv .3))
           ∙ ap (put (s .args .places .now) 0) all,
     )
 
@@ -149,13 +137,13 @@ list-spec =
     (λ c. search needs)
     (λ c κs. search needs)
     (λ c. search needs)
-    put-turns-requires
+    (λ c κs. whole (c .before) .asked)
     (λ c. search needs)
     (λ c. search needs)
     loop-again
     (λ c κs. search needs)
     (λ c. search needs)
-    put-turns-requires-2
+    (λ c κs. last (c .before) .asked)
     (λ c. c .before .before .put-turns2 .kept .1 .1 .0
     ∙ c .before .before .before .before .before .before .loop .inv .3)
     returns)
