@@ -81,7 +81,7 @@ word-suc n f = refl
 
 module _ (test : ℕ → Bool) (p x carry : ℕ) (is : x ≡ word 64 (λ j. test (p + j)))
     (was : carry ≡ flag (inFront test p)) where
-  pub front-word : x % 2 ^ 63 * 2 + carry ≡ word 64 (λ j. inFront test (p + j))
+  front-word : x % 2 ^ 63 * 2 + carry ≡ word 64 (λ j. inFront test (p + j))
   unfolding inFront
   front-word =
       let low : x % 2 ^ 63 ≡ word 63 (λ j. test (p + j)) =
@@ -91,7 +91,7 @@ module _ (test : ℕ → Bool) (p x carry : ℕ) (is : x ≡ word 64 (λ j. test
       let here : carry ≡ flag (inFront test (p + 0)) = was ∙ ap (λ (q : ℕ). flag (inFront test q)) (sym (add-zero p)) in
       omega (arith, low, up, here, word-suc 63 (λ j. inFront test (p + j)))
 
-  pub turns-word : bitXor x (x % 2 ^ 63 * 2 + carry) ≡ word 64 (λ j. turns test (p + j))
+  turns-word : bitXor x (x % 2 ^ 63 * 2 + carry) ≡ word 64 (λ j. turns test (p + j))
   turns-word = ap₂ bitXor is front-word ∙ word-xor 64 (λ j. test (p + j)) (λ j. inFront test (p + j))
 
   -- what the word leaves to the next

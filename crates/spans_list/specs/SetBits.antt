@@ -56,7 +56,7 @@ edges-twice within m p y =
     edges-even within m p (y * 2) (omega arith) ∙ ap (edgesOf within m (suc p)) half
 
 -- the first edge, and the others
-pub edges-first : (within : Bool) (m p x : ℕ) → 0 < x → x < 2 ^ m
+edges-first : (within : Bool) (m p x : ℕ) → 0 < x → x < 2 ^ m
     → edgesOf within m p x ≡ edge within (p + trailingZeros m x) ∷ edgesOf (not within) m p (bitAnd x (x - 1))
 unfolding trailingZeros
 edges-first within zero p x some small = absurd (omega arith)
@@ -118,7 +118,7 @@ pub ones-none : ones 0 ≡ 0
 unfolding ones
 ones-none = refl
 
-pub length-edges-of : (within : Bool) (m p x : ℕ) → x < 2 ^ m → length (edgesOf within m p x) ≡ ones x
+length-edges-of : (within : Bool) (m p x : ℕ) → x < 2 ^ m → length (edgesOf within m p x) ≡ ones x
 length-edges-of within zero p x small = let none : x ≡ 0 = omega arith in rw (none, edges-none) (sym ones-none)
 length-edges-of within (suc m) p x small =
     go (x % 2) refl (λ w. length-edges-of w m (suc p) (x / 2) (omega (arith, pow-suc 2 m)))

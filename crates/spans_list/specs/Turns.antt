@@ -110,7 +110,7 @@ turned-off test (suc k) p off =
     rw (off (suc p) (omega arith), off p (omega arith)) (turned-off test k (suc p) (λ j h. off j (omega arith)))
 
 -- as many begin as end, but for one that is open
-pub turned-even : (test : ℕ → Bool) (k p : ℕ)
+turned-even : (test : ℕ → Bool) (k p : ℕ)
     → (length (turned test k p) + flag (inFront test p)) % 2 ≡ flag (inFront test (p + k))
 unfolding turned inFront xor
 turned-even test zero p = rw (add-zero p) (omega (arith, flag-lt (inFront test p)))

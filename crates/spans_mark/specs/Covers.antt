@@ -14,7 +14,7 @@ use Rattle.spans_mark.specs.Placed.{Placed, first-placed, covered-low}
 -- ---- pair k
 
 -- what is left of a list from an even place on, and its first two numbers
-pub pair-at : (l : List ℕ) (k : ℕ) → k + 1 < length l → drop k l ≡ getD l k 0 ∷ getD l (k + 1) 0 ∷ drop (k + 2) l
+pair-at : (l : List ℕ) (k : ℕ) → k + 1 < length l → drop k l ≡ getD l k 0 ∷ getD l (k + 1) 0 ∷ drop (k + 2) l
 pair-at l k h =
     let one : suc k ≡ k + 1 = omega arith in
     let two : suc (k + 1) ≡ k + 2 = omega arith in

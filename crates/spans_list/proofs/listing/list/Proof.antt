@@ -1,7 +1,6 @@
 -- `spans_list::listing::list` meets its contract. The loop's invariant: the edges of the words passed are in place.
 use mathlib.Core.Path.{_≡_, refl, sym, ap, ap₂, _∙_}
 use mathlib.Core.Bool.{Bool}
-use mathlib.Core.List.{List}
 use Prim.Native.Nat.{ℕ, _+_, _-_, _*_, _/_, _%_, _^_, _≤_}
 use native.Mathlib.Omega.{arith}
 use lib.Bits.{bitXor}
@@ -41,9 +40,10 @@ carry c = ap (λ (k : ℕ). k % 2) (c .loop .inv .1) ∙ turned-open (test (c .b
 
 -- the edges of that word
 pub record Next (c : tie.At-loop Inv-loop μ-loop) (x : ℕ) : Type 0 where
-  pub edges : let l = c .loop in
-      edgesOf (eqb (l .at % 2) 1) 64 (64 * l .q) (bitXor x (x % 2 ^ 63 * 2 + l .at % 2))
-      ≡ turned (test (c .before .before .before)) 64 (64 * l .q)
+  -- put behind those of the words passed
+  pub stored : let l = c .loop in let s = c .before .before .before in
+      put (l .places) (l .at) (edgesOf (eqb (l .at % 2) 1) 64 (64 * l .q) (bitXor x (x % 2 ^ 63 * 2 + l .at % 2)))
+      ≡ put (s .args .places .now) 0 (turned (test s) (64 * l .q + 64) 0)
   pub count : let l = c .loop in
       l .at + ones (bitXor x (x % 2 ^ 63 * 2 + l .at % 2))
       ≡ length (turned (test (c .before .before .before)) (64 * l .q + 64) 0)
@@ -63,15 +63,21 @@ next c x is =
     omega (arith, many, l .inv .1, turned-more t (64 * l .q)) in
     let open-is : eqb (l .at % 2) 1 ≡ inFront t (64 * l .q) =
     ap (λ (k : ℕ). eqb k 1) (carry c) ∙ one-flag (inFront t (64 * l .q)) in
+    let edges : edgesOf (eqb (l .at % 2) 1) 64 (64 * l .q) (bitXor x (x % 2 ^ 63 * 2 + l .at % 2))
+    ≡ turned t 64 (64 * l .q) =
+    ap (λ (b : Bool). edgesOf b 64 (64 * l .q) (bitXor x (x % 2 ^ 63 * 2 + l .at % 2))) open-is
+    ∙ turns-edges t (64 * l .q) x (l .at % 2) is (carry c) in
+    let room : length (turned t (64 * l .q + 64) 0) ≤ length (s .args .places .now) =
+    omega (arith, s .pre .2, turned-within (s .args .bitmap .now) (s .args .n) (64 * l .q + 64)) in
     record {
-      edges =
-          ap (λ (b : Bool). edgesOf b 64 (64 * l .q) (bitXor x (x % 2 ^ 63 * 2 + l .at % 2))) open-is
-          ∙ turns-edges t (64 * l .q) x (l .at % 2) is (carry c);
+      stored =
+          turned-put t (64 * l .q) (s .args .places .now) (l .inv .2) (l .inv .1)
+          (ap (put (l .places) (l .at)) edges) room;
       count = count;
       asked = (
         omega (arith, l .inv .0, s .pre .0),
         omega (arith, carry c, front-le t (64 * l .q)),
-        omega (arith, count, s .pre .2, l .inv .3, turned-within (s .args .bitmap .now) (s .args .n) (64 * l .q + 64)),
+        omega (arith, count, room, l .inv .3),
       );
     }
 
@@ -95,10 +101,7 @@ loop-again c =
     let at : 64 * (l .q + 1) ≡ 64 * l .q + 64 = omega arith in (
       omega (arith, f .before .loop-test .taken),
       rw at (e .put-turns .ensures .0 ∙ n .count),
-      rw at
-          (turned-put (test s) (64 * l .q) (s .args .places .now) (l .inv .2) (l .inv .1)
-          (e .put-turns .ensures .1 ∙ ap (put (l .places) (l .at)) (n .edges))
-          (omega (arith, n .count, n .asked .2, l .inv .3))),
+      rw at (e .put-turns .ensures .1 ∙ n .stored),
       e .put-turns .kept .1 .1 .0 ∙ l .inv .3,
     )
 
@@ -121,10 +124,7 @@ returns c =
     let all =
     turned-spans (s .args .bitmap .now) (s .args .n) (64 * l .q + 64) (omega (arith, f .before .loop-test .left)) in (
       e .put-turns2 .ensures .0 ∙ n .count ∙ ap length all,
-      turned-put (test s) (64 * l .q) (s .args .places .now) (l .inv .2) (l .inv .1)
-          (e .put-turns2 .ensures .1 ∙ ap (put (l .places) (l .at)) (n .edges))
-          (omega (arith, n .count, n .asked .2, l .inv .3))
-          ∙ ap (put (s .args .places .now) 0) all,
+      e .put-turns2 .ensures .1 ∙ n .stored ∙ ap (put (s .args .places .now) 0) all,
     )
 
 pub list-spec : {M : Type 1} → statement M
