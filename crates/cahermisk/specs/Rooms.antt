@@ -1,9 +1,12 @@
 -- How many places to lend for what a call writes: what the header's macros give, within the limits of the column.
 use mathlib.Core.Path.{_≡_, refl}
-use Prim.Native.Nat.{ℕ, zero, suc, _+_, _*_, _/_}
+use mathlib.Core.Bool.{Bool, true, false}
+use Prim.Native.Nat.{ℕ, zero, suc, _+_, _*_, _/_, _≤_}
 use native.Mathlib.Omega.{arith}
 use Rattle.rules.specs.Bits.{ceil}
-use Rattle.rules.specs.Answer.{countFault, limitFault}
+use lib.Dec.{ltb}
+use borrow.Author.Tests.{ltb-false}
+use Rattle.rules.specs.Answer.{faulty, countFault, limitFault}
 use Rattle.rules.specs.Horizontal.{pageBytes}
 use Rattle.rules.specs.Vertical.{pageWords}
 use Rattle.runs_write.specs.Sizes as Runs
@@ -43,3 +46,16 @@ within (suc fault) places e = absurd (omega arith)
 pub beyond : (fault places : ℕ) → (fault ≡ 0 → ⊥) → unless fault places ≡ 0
 beyond zero places some = absurd (some refl)
 beyond (suc fault) places some = refl
+
+-- the entries of a column, where there is a fault of their count none
+pub kept-few : (n : ℕ) → unless (countFault n) n ≤ 16384
+kept-few n = go (ltb 16384 n) refl
+  where
+    go : (t : Bool) → ltb 16384 n ≡ t → unless (faulty t 2) n ≤ 16384
+    go true e = omega arith
+    go false e = ltb-false 16384 n e
+
+-- what takes no place for none of them
+pub unless-of : (fault n : ℕ) (places : ℕ → ℕ) → places 0 ≡ 0 → places (unless fault n) ≡ unless fault (places n)
+unless-of zero n places none = refl
+unless-of (suc fault) n places none = none

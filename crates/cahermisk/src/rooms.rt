@@ -1,19 +1,26 @@
 // How many places to lend, for callers that cannot use the header's macros.
 ghost use mathlib.Core.Path.{_≡_};
+ghost use Rattle.rules.specs.Answer.{countFault};
 ghost use Rattle.cahermisk.specs.Rooms.{bitmapBytes, deltaBytes, horizontalBytes, runsBytes};
-ghost use Rattle.cahermisk.specs.Rooms.{spansPlaces, verticalWords};
+ghost use Rattle.cahermisk.specs.Rooms.{spansPlaces, unless, verticalWords};
 use limits::signed_fault;
 use limits::unsigned_fault;
 
-// Signed columns have no other limit than the count of every column.
-#[no_mangle]
-pub extern "C" fn cahermisk_bitmap_bytes(n: usize) -> usize
-    ensures { λ r. ⌜ r ≡ bitmapBytes n ⌝ }
+// The entries of a column, 0 where they are more than any may have; signed columns have no other limit.
+fn entries_kept(n: usize) -> usize
+    ensures { λ r. ⌜ r ≡ unless (countFault n) n ⌝ }
 {
     if signed_fault(n) != 0 {
         return 0;
     }
-    (n + 7) / 8
+    n
+}
+
+#[no_mangle]
+pub extern "C" fn cahermisk_bitmap_bytes(n: usize) -> usize
+    ensures { λ r. ⌜ r ≡ bitmapBytes n ⌝ }
+{
+    (entries_kept(n) + 7) / 8
 }
 
 #[no_mangle]
@@ -60,8 +67,5 @@ pub extern "C" fn cahermisk_delta_bytes(n: usize) -> usize
 pub extern "C" fn cahermisk_spans_places(n: usize) -> usize
     ensures { λ r. ⌜ r ≡ spansPlaces n ⌝ }
 {
-    if signed_fault(n) != 0 {
-        return 0;
-    }
-    2 * ((n + 1) / 2)
+    2 * ((entries_kept(n) + 1) / 2)
 }
