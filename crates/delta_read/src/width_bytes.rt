@@ -5,27 +5,24 @@ ghost use lib.ListN.{length, take, drop};
 ghost use Rattle.rules.specs.Delta.{widthFault, sum};
 use limits::Signed;
 
-// The first fault of the `all` width bytes from `at` on, of which `need` are those of needed miniblocks.
+// The first fault of the `all` width bytes from `at` on: the first `need` of them, those of needed
+// miniblocks, are judged one by one, and the others need only be there.
 pub fn width_fault(page: &[u8], at: usize, all: usize, need: usize) -> u32
-    requires { ⌜ at ≤ length (now page) ⌝ }
+    requires { ⌜ (at ≤ length (now page)) × (need ≤ all) ⌝ }
     ensures { λ r. ⌜ r ≡ widthFault 32 all need (drop at (now (page .entry))) ⌝ }
 {
     let mut k: usize = 0;
-    while k < all {
+    while k < need {
         if page.len() - at <= k {
             return 5;
         }
-        let w = page[at + k];
-        if k < need {
-            if Signed::MAX_WIDTH < w as u32 {
-                return 1;
-            }
-        } else {
-            if w != 0 {
-                return 16;
-            }
+        if Signed::MAX_WIDTH < page[at + k] as u32 {
+            return 1;
         }
         k += 1;
+    }
+    if page.len() - at < all {
+        return 5;
     }
     0
 }

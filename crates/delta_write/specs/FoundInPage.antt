@@ -101,15 +101,12 @@ module _ (W : ℕ) (page : List ℕ) (l : ℤ) where
 -- ---- the width bytes
 
 module _ (W : ℕ) where
-  -- none is too wide, and those of no numbers are 0
-  widths-good : (all need : ℕ) (xs s : List ℕ) → length xs ≤ 32 * need
-      → widthFault W all need (widths all W xs ++ s) ≡ 0
-  widths-good zero need xs s h = refl
-  widths-good (suc all) zero [] s h = widths-good all zero [] s h
-  widths-good (suc all) zero (x ∷ xs) s h = absurd (omega arith)
-  widths-good (suc all) (suc need) xs s h =
-      rw (le-ltb W (widthFor W (take 32 xs)) (widths-le W (take 32 xs)))
-      (widths-good all need (drop 32 xs) s (omega (arith, length-drop 32 xs)))
+  -- none is too wide
+  widths-good : (all need : ℕ) (xs s : List ℕ) → widthFault W all need (widths all W xs ++ s) ≡ 0
+  widths-good zero need xs s = refl
+  widths-good (suc all) zero xs s = widths-good all zero (drop 32 xs) s
+  widths-good (suc all) (suc need) xs s =
+      rw (le-ltb W (widthFor W (take 32 xs)) (widths-le W (take 32 xs))) (widths-good all need (drop 32 xs) s)
 
   no-bodies : (all : ℕ) → length (bodies all W []) ≡ 0
   no-bodies zero = refl
@@ -163,7 +160,7 @@ found W some page ds left at rest all size e =
     number-found page W at z (widths 4 W xs ++ (bodies 4 W xs ++ rest))
     (zigzagOf-lt W (least ds) (least-within W some ds all)) e′ in
     let good : widthFault W 4 need (drop p page) ≡ 0 =
-    rw at-widths (widths-good W 4 need xs (bodies 4 W xs ++ rest) wanted) in
+    rw at-widths (widths-good W 4 need xs (bodies 4 W xs ++ rest)) in
     let bytes : 4 * sum (take need (drop p page)) ≡ length (bodies 4 W xs) =
     rw at-widths (sum-widths W 4 need xs (bodies 4 W xs ++ rest) few wanted) in
     let room : length (bodies 4 W xs) ≤ length page - (p + 4) =

@@ -1,7 +1,7 @@
 -- The codes: every code that a C function gives is one of those that its row of document 01, or of spans in document
 -- 02, names, 0 among them for acceptance.
-use mathlib.Core.Path.{_≡_, refl}
-use mathlib.Core.Bool.{Bool, true, false, not, _||_}
+use mathlib.Core.Path.{_≡_, refl, sym, ap, _∙_}
+use mathlib.Core.Bool.{Bool, true, false, not, _||_, true≢false}
 use mathlib.Core.List.{List, [], _∷_}
 use mathlib.Core.Logic.{_↔_}
 use Prim.Native.Nat.{ℕ, _%_, _≤_}
@@ -10,6 +10,7 @@ use lib.Dec.{ltb, eqb}
 use lib.ListN.{length}
 use denote.Ref.{now}
 use Rattle.rules.specs.Bits.{ceil}
+use Rattle.rules.specs.Delta.{read, pageFault}
 use Rattle.rules.specs.Spans.{misplaced}
 use Rattle.delta_write.specs.Deltas.{no-wide-fault}
 use Rattle.promises.specs.WhichFaults.{a-fault, in-order, count-limit, limits, large}
@@ -55,10 +56,10 @@ abbrev pub runsNext : List ℕ
 runsNext = 0 ∷ 1 ∷ 2 ∷ 5 ∷ 8 ∷ 9 ∷ 10 ∷ 11 ∷ []
 
 abbrev pub deltaScan : List ℕ
-deltaScan = 0 ∷ 2 ∷ 3 ∷ 4 ∷ 1 ∷ 5 ∷ 6 ∷ 9 ∷ 12 ∷ 13 ∷ 16 ∷ []
+deltaScan = 0 ∷ 2 ∷ 3 ∷ 4 ∷ 1 ∷ 5 ∷ 6 ∷ 9 ∷ 12 ∷ 13 ∷ []
 
 abbrev pub deltaUnpack : List ℕ
-deltaUnpack = 0 ∷ 2 ∷ 4 ∷ 1 ∷ 5 ∷ 6 ∷ 9 ∷ 12 ∷ 13 ∷ 16 ∷ []
+deltaUnpack = 0 ∷ 2 ∷ 4 ∷ 1 ∷ 5 ∷ 6 ∷ 9 ∷ 12 ∷ 13 ∷ []
 
 -- 17 never arises
 abbrev pub deltaPack : List ℕ
@@ -146,13 +147,13 @@ pub delta-scan : EveryDeltaScan (λ κs a r e. oneOf deltaScan (r .code) ≡ tru
 delta-scan κs a r e contract =
     let N : ℕ → Type 0 = Named deltaScan in
     scan-code N refl _ _ _ _ _ (Exported.delta-scan κs a r e contract .code-is) refl refl
-    (count-limit N refl refl (a .1 .0)) (delta-page N refl refl refl refl refl refl refl refl _ _ _)
+    (count-limit N refl refl (a .1 .0)) (delta-page N refl refl refl refl refl refl refl _ _ _)
 
 pub delta-unpack : EveryDeltaUnpack (λ κs a r e. oneOf deltaUnpack (r .code) ≡ true)
 delta-unpack κs a r e contract =
     let N : ℕ → Type 0 = Named deltaUnpack in
     unpack-code N refl _ _ _ _ (Exported.delta-unpack κs a r e contract .code-is) refl
-    (count-limit N refl refl (a .1 .0)) (delta-page N refl refl refl refl refl refl refl refl _ _ _)
+    (count-limit N refl refl (a .1 .0)) (delta-page N refl refl refl refl refl refl refl _ _ _)
 
 pub delta-pack : EveryDeltaPack (λ κs a r e. oneOf deltaPack (r .code) ≡ true)
 delta-pack κs a r e contract =
@@ -191,3 +192,22 @@ pub eighteen : EverySpansToBitmap (λ κs a r e.
     a .1 .0 ≤ 16384 → length (now (a .0)) % 2 ≡ 0 → ceil (a .1 .0) 8 ≤ length (now (a .1 .1 .0))
     → r .code ≡ 18 ↔ (Ascends (a .1 .0) (now (a .0)) → ⊥))
 eighteen κs a r e contract few even room = ascends-or-18 _ _ _ contract few even room
+
+-- ---- 16 is withdrawn, and not given again
+
+-- no delta page of any width is refused with it
+pub no-sixteen : (W n : ℕ) (page : List ℕ) → pageFault (read W n page) ≡ 16 → ⊥
+no-sixteen =
+    delta-page (λ code. code ≡ 16 → ⊥) (λ e. absurd (omega arith)) (λ e. absurd (omega arith))
+    (λ e. absurd (omega arith)) (λ e. absurd (omega arith)) (λ e. absurd (omega arith)) (λ e. absurd (omega arith))
+    (λ e. absurd (omega arith))
+
+-- a code of a row is not one that the row lacks
+outside : (row : List ℕ) {code other : ℕ} → oneOf row code ≡ true → oneOf row other ≡ false → code ≡ other → ⊥
+outside row has lacks e = true≢false (sym has ∙ ap (oneOf row) e ∙ lacks)
+
+pub no-sixteen-scan : EveryDeltaScan (λ κs a r e. r .code ≡ 16 → ⊥)
+no-sixteen-scan κs a r e contract = outside deltaScan (delta-scan κs a r e contract) refl
+
+pub no-sixteen-unpack : EveryDeltaUnpack (λ κs a r e. r .code ≡ 16 → ⊥)
+no-sixteen-unpack κs a r e contract = outside deltaUnpack (delta-unpack κs a r e contract) refl

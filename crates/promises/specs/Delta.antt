@@ -2,8 +2,8 @@
 -- writer writes is read back.
 use mathlib.Core.Path.{_≡_, refl}
 use mathlib.Core.List.{List}
-use mathlib.Core.Logic.{Iff·rfl}
-use Prim.Native.Nat.{ℕ, _<_}
+use mathlib.Core.Logic.{_↔_, Iff·rfl}
+use Prim.Native.Nat.{ℕ, _<_, _≤_}
 use lib.IntN.{ℤ, pos}
 use lib.ListN.{length, take, getD}
 use Rattle.rules.specs.Bits.{ceil}
@@ -13,6 +13,7 @@ use Rattle.rules.specs.Answer.Outcome.{outcome}
 use Rattle.rules.specs.Delta as Delta
 use Rattle.rules.specs.DeltaWriter as DeltaWriter
 use Rattle.rules.specs.declared.Answer.{Answer}
+use Rattle.delta_read.specs.WidthBytes.{widths-there, narrow, widths-fine}
 use Rattle.delta_write.specs.Deltas.{AllWithin, no-wide-fault}
 use Rattle.delta_write.specs.ReadBack.{fault-back, entries-back}
 use Rattle.promises.specs.Layouts.{Layout}
@@ -40,6 +41,16 @@ writer W some =
       packed-exact = λ k xs few fit held. fault-back W some xs few held;
       packed-entries = λ k xs few fit held. entries-back W some xs few held;
     }
+
+-- ---- the width bytes of a block, in plain conditions
+
+-- they have no fault just where all are there and those of needed miniblocks are at most W: the others may be any number
+pub widths-exact : (W all need : ℕ) (s : List ℕ) → need ≤ all
+    → Delta.widthFault W all need s ≡ 0 ↔ ((all ≤ length s) × ((k : ℕ) → k < need → getD s k 0 ≤ W))
+widths-exact W all need s few = (
+  λ none. (widths-there W all need s none, λ k l. narrow W all need s k none few l),
+  λ good. widths-fine W all need s (good .0) (good .1),
+)
 
 -- ---- what the writer wrote is scanned
 

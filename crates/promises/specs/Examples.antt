@@ -83,6 +83,13 @@ slope = pos 7 ∷ pos 5 ∷ pos 3 ∷ pos 1 ∷ pos 2 ∷ pos 3 ∷ pos 4 ∷ po
 abbrev pub slopePage : List ℕ
 slopePage = 0x80 ∷ 0x01 ∷ 0x04 ∷ 0x08 ∷ 0x0E ∷ 0x03 ∷ 0x02 ∷ 0x00 ∷ 0x00 ∷ 0x00 ∷ 0xC0 ∷ 0x3F ∷ replicate 6 0x00
 
+-- the same with old numbers in the width bytes of its unneeded miniblocks; and so two entries 0, which have no bodies
+abbrev pub slopeOldPage : List ℕ
+slopeOldPage = take 7 slopePage ++ (0xFF ∷ 0x40 ∷ 0x07 ∷ drop 10 slopePage)
+
+abbrev pub zerosOldPage : List ℕ
+zerosOldPage = 0x80 ∷ 0x01 ∷ 0x04 ∷ 0x02 ∷ 0x00 ∷ 0x00 ∷ 0x00 ∷ 0xFF ∷ 0x40 ∷ 0x07 ∷ []
+
 -- 2147483647 and -2147483648: from the greatest to the least is one step
 abbrev pub ends : List ℤ
 ends = pos 2147483647 ∷ negsuc 2147483647 ∷ []
@@ -164,11 +171,14 @@ rows =
     (lent 2)
     ∷ Delta.scan 32 (0x80 ∷ 0x01 ∷ 0x04 ∷ 0x01 ∷ 0xFF ∷ 0xFF ∷ 0xFF ∷ 0xFF ∷ 0x10 ∷ []) 1 0 (pos 0) (pos 0) (lent 2)
     is refusing 9 (lent 2)
-    -- a needed width of 33 is 1, an unneeded one of 1 is 16
+    -- a needed width of 33 is 1, also where the page ends behind it
     ∷ Delta.scan 32 (0x80 ∷ 0x01 ∷ 0x04 ∷ 0x02 ∷ 0x00 ∷ 0x00 ∷ 0x21 ∷ []) 2 0 (pos 0) (pos 0) (lent 2)
     is refusing 1 (lent 2)
-    ∷ Delta.scan 32 (0x80 ∷ 0x01 ∷ 0x04 ∷ 0x02 ∷ 0x00 ∷ 0x00 ∷ 0x00 ∷ 0x01 ∷ 0x00 ∷ 0x00 ∷ []) 2 0 (pos 0) (pos 0)
-    (lent 2) is refusing 16 (lent 2)
+    -- old numbers FF 40 07 as unneeded widths: the same entries, no body; one of them missing is 5, though no body is
+    ∷ Delta.scan 32 slopeOldPage 8 6 (pos 2) (pos 4) (lent 2) is holding 4 (0x74 ∷ lent 1)
+    ∷ Delta.unpack 32 slopeOldPage 8 (replicate 9 (pos 0)) reads holding 8 (slope ++ (pos 0 ∷ []))
+    ∷ Delta.scan 32 zerosOldPage 2 0 (pos 0) (pos 0) (lent 2) is holding 2 (0x03 ∷ lent 1)
+    ∷ Delta.scan 32 (take 9 zerosOldPage) 2 0 (pos 0) (pos 0) (lent 2) is refusing 5 (lent 2)
     -- one miniblock of 128 entries of width 1, its body of 16 bytes
     ∷ Delta.scan 32 (0x80 ∷ 0x01 ∷ 0x01 ∷ 0x03 ∷ 0x00 ∷ 0x00 ∷ 0x01 ∷ 0x03 ∷ replicate 15 0x00) 3 5 (pos 1) (pos 0)
     (lent 2) is holding 2 (0x06 ∷ lent 1)

@@ -174,12 +174,12 @@ module _ (Named : ℕ → Type 0) (none : Named 0) where
 
   -- ---- delta pages
 
-  module _ (one : Named 1) (five : Named 5) (six : Named 6) (nine : Named 9) (sixteen : Named 16) where
+  module _ (one : Named 1) (five : Named 5) (six : Named 6) (nine : Named 9) where
     widths : (W all need : ℕ) (s : List ℕ) → Named (widthFault W all need s)
     widths W zero need s = none
     widths W (suc all) zero [] = five
     widths W (suc all) (suc need) [] = five
-    widths W (suc all) zero (b ∷ s) = either Named (eqb b 0) (λ _. widths W all zero s) (λ _. sixteen)
+    widths W (suc all) zero (b ∷ s) = widths W all zero s
     widths W (suc all) (suc need) (b ∷ s) = either Named (ltb W b) (λ _. one) (λ _. widths W all need s)
 
     bodies : (h minis need m : ℕ) (page : List ℕ) (at code : ℕ) → Named code

@@ -41,11 +41,11 @@ headAt W n page =
 unfoldable pub needed : ℕ → ℕ → ℕ → ℕ
 needed minis m left = min minis (ceil left m)
 
--- the width bytes first to last: 5 if missing, else 1 for a needed one and 16 for an unneeded one
+-- the width bytes first to last: 5 if missing, else 1 for a needed one above W; an unneeded one may be any number
 abbrev pub widthFault : ℕ → ℕ → ℕ → List ℕ → ℕ
 widthFault W zero need s = 0
 widthFault W (suc all) need [] = 5
-widthFault W (suc all) zero (b ∷ s) = cond (eqb b 0) (widthFault W all zero s) 16
+widthFault W (suc all) zero (b ∷ s) = widthFault W all zero s
 widthFault W (suc all) (suc need) (b ∷ s) = cond (ltb W b) 1 (widthFault W all need s)
 
 abbrev pub sum : List ℕ → ℕ

@@ -53,7 +53,7 @@ unfolding blockAt
 on-least c = by-read Unlaid _ (read c)
 
 width-fault-requires : tie.Need-width-fault-requires
-width-fault-requires c κs = on-page c
+width-fault-requires c κs = (on-page c, search needs)
 
 -- a fault of the width bytes is the block's
 unlaid : (h minis need m : ℕ) (page : List ℕ) (at code : ℕ) → (code ≡ 0 → ⊥)
