@@ -31,8 +31,8 @@ extern "C" {
 /* ---- What all layouts share -------------------------------------------- */
 
 /* The version: major * 1000000 + minor * 1000 + patch. */
-#define CAHERMISK_VERSION 3000
-#define CAHERMISK_VERSION_TEXT "0.3.0"
+#define CAHERMISK_VERSION 4000
+#define CAHERMISK_VERSION_TEXT "0.4.0"
 
 /*
  * The version of the library that is linked: CAHERMISK_VERSION as it was when that
@@ -72,7 +72,7 @@ enum cahermisk_code {
     CAHERMISK_MALFORMED_DICTIONARY = 14,  /* dictionary: length no multiple of 4, over
                                              65,536 bytes, or values not strictly ascending */
     CAHERMISK_INDEX_TOO_LARGE = 15,       /* index not below the dictionary's count */
-    CAHERMISK_UNNEEDED_WIDTH_NOT_0 = 16,  /* width byte of an unneeded miniblock not 0 */
+    /* 16 is withdrawn, and not given again. */
     CAHERMISK_MINIBLOCK_TOO_WIDE = 17,    /* delta writer: a miniblock needs more than 32 bits */
     CAHERMISK_SPANS_MISPLACED = 18        /* spans: not ascending with a gap of at least one entry,
                                              an end before its start, or the entry count reached */
@@ -99,7 +99,6 @@ static inline const char *cahermisk_code_text(uint32_t code) {
     case CAHERMISK_MALFORMED_DICTIONARY:
         return "dictionary: length no multiple of 4, over 65,536 bytes, or values not strictly ascending";
     case CAHERMISK_INDEX_TOO_LARGE: return "index not below the dictionary's count";
-    case CAHERMISK_UNNEEDED_WIDTH_NOT_0: return "width byte of an unneeded miniblock not 0";
     case CAHERMISK_MINIBLOCK_TOO_WIDE: return "delta writer: a miniblock needs more than 32 bits";
     case CAHERMISK_SPANS_MISPLACED:
         return "spans: not ascending with a gap of at least one entry, an end before its start, or the entry count reached";
@@ -393,11 +392,11 @@ cahermisk_answer cahermisk_runs_pack(const uint32_t *entries, size_t entries_len
  * spelled 0, 1, 2, 3, 4 ..
  *
  * Then come ceil((n - 1) / block size) blocks, none for n = 0 or 1. A block is a
- * signed number, the smallest delta; a width byte for each miniblock, 0 to 32;
- * and the miniblocks' bodies, each packed as a horizontal page of its width and
- * always full: what lies there past entry n - 1 may be anything. A miniblock is
- * needed if it holds the delta of an entry below n; the others have width byte 0
- * and no body.
+ * signed number, the smallest delta; a width byte for each miniblock; and the
+ * bodies of the needed miniblocks, each packed as a horizontal page of its width,
+ * 0 to 32, and always full: what lies there past entry n - 1 may be anything. A
+ * miniblock is needed if it holds the delta of an entry below n. The others have
+ * a width byte all the same, which may be any number, and no body.
  *
  * Entry 0 is the first value. Each later entry is the one before plus its block's
  * smallest delta plus its packed number, wrapping in 32 bits. The smallest delta
@@ -414,7 +413,6 @@ cahermisk_answer cahermisk_runs_pack(const uint32_t *entries, size_t entries_len
  *   for each width byte in turn
  *      5  it is missing
  *      1  its miniblock is needed and the width is above 32
- *      16 its miniblock is not needed and the byte is not 0
  *   5  the page ends before the bodies do
  * and after the last block
  *   6  the page goes on

@@ -6,7 +6,8 @@
 //! before plus its block's smallest delta plus its packed number, wrapping in 32 bits.
 //!
 //! [`scan`] and [`unpack`] read pages of any writer: block sizes from 128 to 16,384, miniblocks of any
-//! multiple of 32. [`pack`] writes blocks of 128 in 4 miniblocks.
+//! multiple of 32, any number as the width byte of a miniblock that holds no entry. [`pack`] writes
+//! blocks of 128 in 4 miniblocks.
 
 use alloc::vec::Vec;
 

@@ -6,12 +6,13 @@ use core::fmt;
 /// Makes `Refusal` of one list: the number of each code, its name, and what it means.
 macro_rules! refusals {
     ($($code:literal $name:ident $words:literal,)*) => {
-        /// Why a call was refused. A refused call has changed nothing that was lent to it.
+        /// Why a call was refused. A refused call has changed nothing that was lent to it. Code 16 is
+        /// withdrawn, and not given again.
         #[derive(Clone, Copy, Debug, PartialEq, Eq, Hash)]
         #[non_exhaustive]
         pub enum Refusal {
             $(#[doc = concat!(stringify!($code), ": ", $words, ".")] $name,)*
-            /// A code that this package has no name for, from a library newer than the package.
+            /// A code that this package has no name for, from a library of another version.
             Unknown(u32),
         }
 
@@ -73,7 +74,7 @@ refusals! {
     14 MalformedDictionary
         "dictionary: length no multiple of 4, over 65,536 bytes, or values not strictly ascending",
     15 IndexTooLarge "index not below the dictionary's count",
-    16 UnneededWidthNot0 "width byte of an unneeded miniblock not 0",
+    // 16 is withdrawn.
     17 MiniblockTooWide "delta writer: a miniblock needs more than 32 bits",
     18 SpansMisplaced
         "spans: not ascending with a gap of at least one entry, an end before its start, or the entry count reached",

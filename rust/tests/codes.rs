@@ -4,7 +4,7 @@ use std::error::Error;
 use std::fmt::Debug;
 
 use cahermisk::Refusal;
-use code_table::rows;
+use code_table::{is_withdrawn, numbered, rows, NONE};
 
 mod code_table;
 
@@ -12,9 +12,7 @@ const HEADER: &str = include_str!("../../include/cahermisk.h");
 const README: &str = include_str!("../../README.md");
 const PROGRAM: &str = include_str!("../../crates/scan_says/src/lib.rt");
 const MAN_PAGE: &str = include_str!("../../docs/scan.1");
-
-/// What a row has for a name or for words that its code has not.
-const NONE: &str = "-";
+const PACKAGE: &str = include_str!("../src/refusal.rs");
 
 /// All that a place says of codes is what the rows say, in their order.
 fn hold<T: PartialEq + Debug>(place: &str, said: &[T], rows: &[T]) {
@@ -105,7 +103,7 @@ fn in_package(code: u32) -> [String; 3] {
 #[test]
 fn the_package_names_each_refusal() {
     let is_known = |code: &u32| !matches!(Refusal::from_code(*code), Some(Refusal::Unknown(_)));
-    let said: Vec<_> = (0..).take_while(is_known).map(in_package).collect();
+    let said: Vec<_> = (0..256).filter(is_known).map(in_package).collect();
     let told = |[number, _, name, words, _]: [&str; 5]| [number, name, words].map(str::to_owned);
     let rows: Vec<_> = rows().into_iter().map(told).collect();
     hold("rust/src/refusal.rs", &said, &rows);
@@ -113,7 +111,7 @@ fn the_package_names_each_refusal() {
 
 #[test]
 fn the_package_keeps_the_number_of_a_code_that_it_has_no_name_for() {
-    for code in [rows().len() as u32, u32::MAX] {
+    for code in [numbered().len() as u32, u32::MAX] {
         let unknown = Refusal::from_code(code);
         assert_eq!(unknown, Some(Refusal::Unknown(code)));
         assert_eq!(unknown.map(Refusal::code), Some(code));
@@ -155,4 +153,25 @@ fn the_man_page_says_what_the_program_says() {
     let lines = parts.filter_map(|part| part.split_once('\n'));
     let said: Vec<_> = lines.map(<[&str; 2]>::from).collect();
     hold("docs/scan.1", &said, &sentences());
+}
+
+/// A number that is withdrawn has no name anywhere, and each place that tells of codes says so.
+#[test]
+fn withdrawn_numbers_are_not_given_again() {
+    let all = numbered().into_iter();
+    let withdrawn: Vec<&str> = all
+        .filter(is_withdrawn)
+        .map(|[number, ..]| number)
+        .collect();
+    assert_eq!(withdrawn, ["16"]);
+    for number in withdrawn {
+        let code = number.parse().expect("a number");
+        assert_eq!(Refusal::from_code(code), Some(Refusal::Unknown(code)));
+        let said = format!("{number} is withdrawn, and not given again");
+        for place in [HEADER, README, MAN_PAGE, PACKAGE] {
+            let words = place.split(|c: char| c.is_whitespace() || c == '/');
+            let text: Vec<&str> = words.filter(|word| !word.is_empty()).collect();
+            assert!(text.join(" ").contains(&said), "{said}");
+        }
+    }
 }

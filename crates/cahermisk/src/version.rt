@@ -4,7 +4,7 @@ ghost use Rattle.cahermisk.specs.Version.{numbered};
 
 #[no_mangle]
 pub extern "C" fn cahermisk_version() -> u32
-    ensures { λ r. ⌜ r ≡ numbered 0 3 0 ⌝ }
+    ensures { λ r. ⌜ r ≡ numbered 0 4 0 ⌝ }
 {
-    3000
+    4000
 }

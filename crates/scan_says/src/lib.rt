@@ -129,7 +129,7 @@ pub fn help() -> bool
 pub fn version() -> bool
     ensures { λ r. ⌜ r ≡ false ⌝ }
 {
-    if io::write_all(STDOUT_FILENO, b"scan 0.3.0\n") {
+    if io::write_all(STDOUT_FILENO, b"scan 0.4.0\n") {
         return false;
     }
     tell(Sentence::Unwritten)
@@ -357,7 +357,6 @@ fn layout_meaning(code: u32) {
             b"dictionary: length no multiple of 4, over 65,536 bytes, or values not strictly ascending",
         ),
         15 => say(b"index not below the dictionary's count"),
-        16 => say(b"width byte of an unneeded miniblock not 0"),
         _ => say(b"a code without a meaning here"),
     }
 }

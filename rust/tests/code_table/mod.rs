@@ -2,9 +2,19 @@
 
 const TABLE: &str = include_str!("../../../data/codes.txt");
 
-/// Of each code in turn its number, its names in C and in Rust, what it means and what the program says;
-/// a dash where it has none.
+/// What a row has for a name or for words that its code has not.
+pub const NONE: &str = "-";
+
+/// Of each code in turn that is given its number, its names in C and in Rust, what it means and what the program
+/// says; a dash where it has none.
 pub fn rows() -> Vec<[&'static str; 5]> {
+    let mut rows = numbered();
+    rows.retain(|row| !is_withdrawn(row));
+    rows
+}
+
+/// The rows of all codes, withdrawn ones too.
+pub fn numbered() -> Vec<[&'static str; 5]> {
     let is_row = |line: &&str| !line.is_empty() && !line.starts_with('#');
     let rows: Vec<_> = TABLE.lines().filter(is_row).map(cells).collect();
     for (place, [number, ..]) in rows.iter().enumerate() {
@@ -12,6 +22,11 @@ pub fn rows() -> Vec<[&'static str; 5]> {
         assert_eq!(*number, counted, "data/codes.txt goes on from 0 by ones");
     }
     rows
+}
+
+/// A code that is withdrawn has a number alone.
+pub fn is_withdrawn([_, words @ ..]: &[&str; 5]) -> bool {
+    *words == [NONE; 4]
 }
 
 fn cells(row: &str) -> [&str; 5] {

@@ -38,7 +38,7 @@ const HEADERS: [(&[u8], u32); 25] = [
 /// A good header of 34 entries, so of two needed miniblocks of 32, and the blocks behind it with a fault: the
 /// smallest delta, the width bytes first to last, then the bodies, and what is left over.
 const HEADER: [u8; 5] = [0x80, 0x01, 0x04, 0x22, 0x00];
-const BLOCKS: [(&[u8], u32); 15] = [
+const BLOCKS: [(&[u8], u32); 16] = [
     (&[], 5),
     (&[0x80], 5),
     (&[0x80, 0x80, 0x80, 0x80, 0x10], 9),
@@ -47,9 +47,10 @@ const BLOCKS: [(&[u8], u32); 15] = [
     (&[0x00, 0x21], 1),
     (&[0x00, 0x00, 0xFF, 0x01], 1),
     (&[0x00, 0x21, 0x00, 0x01, 0x00], 1),
-    (&[0x00, 0x20, 0x20, 0x01], 16),
-    (&[0x00, 0x20, 0x20, 0x00, 0x21], 16),
-    (&[0x00, 0x01, 0x01, 0x00, 0xFF], 16),
+    (&[0x00, 0x00, 0x21, 0xFF], 1),
+    (&[0x00, 0x00, 0x00, 0xFF], 5),
+    (&[0x00, 0x01, 0x01, 0xFF, 0x40], 5),
+    (&[0x00, 0x00, 0x00, 0xFF, 0x40, 0x07], 6),
     (&[0x00, 0x01, 0x00, 0x00, 0x00, 1, 2, 3], 5),
     (&[0x00, 0x01, 0x01, 0x00, 0x00, 1, 2, 3, 4, 5], 5),
     (&[0x00, 0x01, 0x00, 0x00, 0x00, 1, 2, 3, 4, 5], 6),
@@ -125,8 +126,9 @@ fn the_second_block() {
         (&[0x80, 0x80, 0x80, 0x80, 0x10], 9),
         (&[0x00, 0x21], 1),
         (&[0x00, 0x20], 5),
-        (&[0x00, 0x00, 0x01], 16),
-        (&[0x00, 0x00, 0x00, 0x00, 0x21], 16),
+        (&[0x00, 0x00, 0xFF], 5),
+        (&[0x00, 0x00, 0xFF, 0x40, 0x07], 0),
+        (&[0x00, 0x01, 0xFF, 0x40, 0x07, 1, 2, 3, 4], 0),
         (&[0x00, 0x01, 0x00, 0x00, 0x00, 1, 2, 3], 5),
         (&[0x00, 0x01, 0x00, 0x00, 0x00, 1, 2, 3, 4], 0),
         (&[0x00, 0x01, 0x00, 0x00, 0x00, 1, 2, 3, 4, 5], 6),
@@ -137,8 +139,8 @@ fn the_second_block() {
     calls.finish();
 }
 
-/// Each width byte of the last block by itself above 32, at all counts: 1 if the miniblock holds a delta of an entry
-/// below n, else 16. Equal entries have no bodies, so that those width bytes end the page.
+/// Each width byte of the last block by itself above 32, at all counts: 1 if the miniblock holds a delta of an
+/// entry below n, and else no fault. Equal entries have no bodies, so that those width bytes end the page.
 #[test]
 fn width_bytes_of_the_last_block() {
     let mut calls = Calls::of_delta("width bytes of the last block");
@@ -146,10 +148,33 @@ fn width_bytes_of_the_last_block() {
         let page = page_of(&vec![7; n]);
         let left = (n - 2) % 128 + 1;
         for m in 0..4 {
-            let mut bad = page.clone();
-            bad[page.len() - 4 + m] = 33;
-            let code = if 32 * m < left { 1 } else { 16 };
-            assert_eq!(calls.read_delta(&bad, n), code, "n {n}, miniblock {m}");
+            let mut wide = page.clone();
+            wide[page.len() - 4 + m] = 33;
+            let code = if 32 * m < left { 1 } else { 0 };
+            assert_eq!(calls.read_delta(&wide, n), code, "n {n}, miniblock {m}");
+        }
+    }
+    calls.finish();
+}
+
+/// Any number as the width of an unneeded miniblock, before a body and before the page's end: the entries stay
+/// what they are, and a page that ends among those bytes is 5.
+#[test]
+fn old_numbers_as_unneeded_widths() {
+    let mut calls = Calls::of_delta("old numbers as unneeded widths");
+    for entries in [&[7, 5, 3, 1, 2, 3, 4, 5][..], &[7; 8]] {
+        let page = page_of(entries);
+        for place in 7..10 {
+            assert_eq!(calls.read_delta(&page[..place], 8), 5, "ends at {place}");
+            for number in 0..=u8::MAX {
+                let mut old = page.clone();
+                old[place] = number;
+                assert_eq!(
+                    calls.entries_of_delta(&old, 8),
+                    entries,
+                    "{number} at {place}"
+                );
+            }
         }
     }
     calls.finish();

@@ -69,8 +69,9 @@ pub fn any_shape(random: &mut Random) -> Shape {
     }
 }
 
-/// A page of the entries as another writer might make it: numbers now and then in more bytes than they need, smallest
-/// deltas that are not the least, widths wider than needed, anything as filling and as the first value of none.
+/// A page of the entries as another writer might make it: numbers now and then in more bytes than they need,
+/// smallest deltas that are not the least, widths wider than needed, anything as filling, as the first value of
+/// none and, of some blocks, as widths of unneeded miniblocks.
 pub fn of_another_writer(entries: &[i32], shape: Shape, random: &mut Random) -> Vec<u8> {
     let any = random.bits() as i32;
     let first = entries.first().copied().unwrap_or(any);
@@ -113,10 +114,9 @@ fn block_of(deltas: &[i32], shape: Shape, random: &mut Random) -> Vec<u8> {
         numbers.resize_with(size, || random.bits() as u32);
         bodies.extend(Horizontal::page_of(&numbers, width));
     }
-    block.resize(
-        block.len() + shape.miniblocks - deltas.len().div_ceil(size),
-        0,
-    );
+    let old_numbers = random.pick(&[0x00, 0xFF]);
+    let unneeded = shape.miniblocks - deltas.len().div_ceil(size);
+    block.extend((0..unneeded).map(|_| random.bits() as u8 & old_numbers));
     block.extend(bodies);
     block
 }

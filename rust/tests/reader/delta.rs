@@ -49,8 +49,9 @@ fn well_shaped(block_size: u64, miniblocks: u64) -> bool {
         && block_size / miniblocks % 32 == 0
 }
 
-/// The width bytes of a block, judged first to last (5 if missing, else 1 or 16): the widths of the needed
-/// miniblocks. One is needed if it holds a delta of an entry below n, and `left` deltas are to come.
+/// The width bytes of a block, judged first to last (5 if missing, else 1 for a needed one above 32): the
+/// widths of the needed miniblocks. One is needed if it holds a delta of an entry below n, and `left` deltas
+/// are to come.
 fn widths(
     page: &[u8],
     header: &Header,
@@ -65,8 +66,6 @@ fn widths(
                 return Err(1);
             }
             widths.push(width.into());
-        } else if width != 0 {
-            return Err(16);
         }
         at = next;
     }

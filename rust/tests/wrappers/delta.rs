@@ -51,7 +51,6 @@ fn pages_refuse() {
         (&changed(2, 3), Refusal::DeltaShape),
         (&changed(3, 9), Refusal::DeltaCountNotN),
         (&changed(6, 33), Refusal::WidthAboveLimit),
-        (&changed(7, 2), Refusal::UnneededWidthNot0),
     ] {
         let mut bitmap = [0xA5];
         let scanned = scan(page, 8, Comparison::less(3), &mut bitmap);
@@ -59,6 +58,17 @@ fn pages_refuse() {
         let mut entries = [99; 8];
         assert_eq!(unpack(page, 8, &mut entries), Err(refusal));
         assert_eq!(entries, [99; 8]);
+    }
+}
+
+/// Old numbers in the width bytes of miniblocks that hold no entry.
+#[test]
+fn unneeded_widths_may_be_any_number() {
+    for place in 7..10 {
+        let page = changed(place, 0xFF);
+        assert_eq!(unpack_to_vec(&page, 8), Ok(ENTRIES.to_vec()));
+        let selection = scan_to_bitmap(&page, 8, Comparison::between(2, 4)).expect("a good page");
+        assert_eq!(selection.as_bytes(), [0x74]);
     }
 }
 

@@ -54,8 +54,8 @@ impl<'a> Blocks<'a> {
             let entries = self.left.min(self.size);
             let smallest = signed(&mut self.page)?;
             let widths = take(&mut self.page, self.minis)?;
-            let (needed, unneeded) = widths.split_at(entries.div_ceil(mini));
-            if needed.iter().any(|&width| width > 32) || unneeded.iter().any(|&width| width > 0) {
+            let needed = &widths[..entries.div_ceil(mini)];
+            if needed.iter().any(|&width| width > 32) {
                 return None;
             }
             for (m, &width) in needed.iter().enumerate() {

@@ -13,7 +13,7 @@ use crate::parquet::thrift::write::Struct;
 
 /// The format's version that has RLE_DICTIONARY and DELTA_BINARY_PACKED.
 const VERSION: i64 = 2;
-const CREATED_BY: &str = "cahermisk version 0.3.0";
+const CREATED_BY: &str = "cahermisk version 0.4.0";
 
 pub fn file(rows: usize, columns: &[Column]) -> Vec<u8> {
     let mut bytes = MAGIC.to_vec();
