@@ -59,7 +59,7 @@ returns-3 c =
 returns-4 : tie.Need-returns-4 Inv-loop μ-loop
 returns-4 c =
     let l = c .before .before .loop in
-    sym (l .inv .2 ∙ all-there 32 _ _ _ _ (l .k) (omega arith) (omega arith) (omega arith) (c .if3 .left))
+    sym (l .inv .2 ∙ all-there 32 _ _ _ _ (l .k) (omega arith) (omega arith) (omega arith) (omega arith))
 
 pub width-fault-spec : {M : Type 1} → statement M
 width-fault-spec =
