@@ -195,16 +195,14 @@ eighteen κs a r e contract few even room = ascends-or-18 _ _ _ contract few eve
 
 -- ---- 16 is withdrawn, and not given again
 
--- no delta page of any width is refused with it
-pub no-sixteen : (W n : ℕ) (page : List ℕ) → pageFault (read W n page) ≡ 16 → ⊥
-no-sixteen =
-    delta-page (λ code. code ≡ 16 → ⊥) (λ e. absurd (omega arith)) (λ e. absurd (omega arith))
-    (λ e. absurd (omega arith)) (λ e. absurd (omega arith)) (λ e. absurd (omega arith)) (λ e. absurd (omega arith))
-    (λ e. absurd (omega arith))
-
 -- a code of a row is not one that the row lacks
 outside : (row : List ℕ) {code other : ℕ} → oneOf row code ≡ true → oneOf row other ≡ false → code ≡ other → ⊥
 outside row has lacks e = true≢false (sym has ∙ ap (oneOf row) e ∙ lacks)
+
+-- no delta page of any width is refused with it
+pub no-sixteen : (W n : ℕ) (page : List ℕ) → pageFault (read W n page) ≡ 16 → ⊥
+no-sixteen W n page =
+    outside deltaUnpack (delta-page (Named deltaUnpack) refl refl refl refl refl refl refl W n page) refl
 
 pub no-sixteen-scan : EveryDeltaScan (λ κs a r e. r .code ≡ 16 → ⊥)
 no-sixteen-scan κs a r e contract = outside deltaScan (delta-scan κs a r e contract) refl

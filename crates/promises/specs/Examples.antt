@@ -174,7 +174,7 @@ rows =
     -- a needed width of 33 is 1, also where the page ends behind it
     ∷ Delta.scan 32 (0x80 ∷ 0x01 ∷ 0x04 ∷ 0x02 ∷ 0x00 ∷ 0x00 ∷ 0x21 ∷ []) 2 0 (pos 0) (pos 0) (lent 2)
     is refusing 1 (lent 2)
-    -- old numbers FF 40 07 as unneeded widths: the same entries, no body; one of them missing is 5, though no body is
+    -- old numbers FF 40 07 as unneeded widths: the same entries; one of them missing is 5, also where no body follows
     ∷ Delta.scan 32 slopeOldPage 8 6 (pos 2) (pos 4) (lent 2) is holding 4 (0x74 ∷ lent 1)
     ∷ Delta.unpack 32 slopeOldPage 8 (replicate 9 (pos 0)) reads holding 8 (slope ++ (pos 0 ∷ []))
     ∷ Delta.scan 32 zerosOldPage 2 0 (pos 0) (pos 0) (lent 2) is holding 2 (0x03 ∷ lent 1)
