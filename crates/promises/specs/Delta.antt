@@ -4,6 +4,7 @@ use mathlib.Core.Path.{_≡_, refl}
 use mathlib.Core.List.{List}
 use mathlib.Core.Logic.{_↔_, Iff·rfl}
 use Prim.Native.Nat.{ℕ, _<_, _≤_}
+use native.Mathlib.Omega.{arith}
 use lib.IntN.{ℤ, pos}
 use lib.ListN.{length, take, getD}
 use Rattle.rules.specs.Bits.{ceil}
@@ -44,12 +45,12 @@ writer W some =
 
 -- ---- the width bytes of a block, in plain conditions
 
--- they have no fault just where all are there and those of needed miniblocks are at most W: the others may be any number
+-- no fault just where all are there and those of needed miniblocks are at most W: the others may be any number
 pub widths-exact : (W all need : ℕ) (s : List ℕ) → need ≤ all
     → Delta.widthFault W all need s ≡ 0 ↔ ((all ≤ length s) × ((k : ℕ) → k < need → getD s k 0 ≤ W))
 widths-exact W all need s few = (
-  λ none. (widths-there W all need s none, λ k l. narrow W all need s k none few l),
-  λ good. widths-fine W all need s (good .0) (good .1),
+  λ none. (widths-there W all need s none, λ k l. narrow W all need s k none few (omega arith)),
+  λ good. widths-fine W all need s (good .0) (λ k l. good .1 k (omega arith)),
 )
 
 -- ---- what the writer wrote is scanned
