@@ -1,5 +1,7 @@
 // The two ways in which a call ends, the check of the output's room, and the order of faults. What a call
 // leaves of the lent places is in specs/.
+#![tactic(auto)]
+
 ghost use Rattle.std.specs.Prelude.{◌≡◌};
 ghost use Rattle.rules.specs.Answer.{◌then◌, accepted, refusal, room_fault};
 

@@ -1,4 +1,6 @@
 // What every scan begins with: the limits' fault, then 3, or else its band.
+#![tactic(auto)]
+
 ghost use Rattle.std.specs.Prelude.{◌≡◌};
 ghost use Rattle.rules.specs.Answer.{count_fault, limit_fault};
 ghost use Rattle.arguments.specs.Arguments.{arguments_of};
@@ -6,7 +8,7 @@ ghost use Rattle.arguments.specs.Arguments.{arguments_of};
 use compare::bands::{Band, Comparison, band_of};
 use limits::{signed_fault, unsigned_fault};
 
-#[derive(Drop)]
+#[derive(Clone, Copy)]
 pub enum Arguments {
     Good(Band),
     Bad(u32),

@@ -1,4 +1,6 @@
 // The selection bitmap: one bit, how many bits are set, and the unused bits of the last byte.
+#![tactic(auto)]
+
 ghost use Rattle.std.specs.Prelude.{◌≡◌, ◌≤◌, length, take};
 ghost use Rattle.rules.specs.Bits.{ceil, flag, bit_at};
 ghost use Rattle.rules.specs.Bits.Order.{low_first};

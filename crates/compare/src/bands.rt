@@ -4,7 +4,7 @@ ghost use Rattle.compare.specs.Band.{band, band_of};
 ghost use Rattle.compare.specs.declared.bands.Comparison.TheVariants.{Of};
 
 // The eight operators are one test: from low to high with both ends, or where `outside` holds all others.
-#[derive(Drop)]
+#[derive(Clone, Copy)]
 pub struct Band {
     pub low: i64,
     pub high: i64,
@@ -12,7 +12,7 @@ pub struct Band {
 }
 
 // What an operator number comes to.
-#[derive(Drop)]
+#[derive(Clone, Copy)]
 pub enum Comparison {
     Of(Band),
     Unknown,

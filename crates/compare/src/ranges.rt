@@ -6,7 +6,7 @@ use crate::bands::Band;
 use std::num::wrapping_sub_u32;
 
 // From low to low + span, or where flip is 255 all others.
-#[derive(Drop)]
+#[derive(Clone, Copy)]
 pub struct Range {
     pub low: u32,
     pub span: u32,

@@ -2,7 +2,7 @@
 
 // The smallest delta's zigzag number, the places of their width bytes and of their bodies, how many they
 // are, and how many entries each holds.
-#[derive(Drop)]
+#[derive(Clone, Copy)]
 pub struct Miniblocks {
     pub least: u64,
     pub widths: usize,

@@ -9,7 +9,7 @@ use compare::ranges::{Range, passes};
 use std::num::{wrapping_add_u32, wrapping_sub_u32};
 
 // Which of some entries pass, as bits, and the entry after them.
-#[derive(Drop)]
+#[derive(Clone, Copy)]
 pub struct Octet {
     pub bits: u32,
     pub after: u32,

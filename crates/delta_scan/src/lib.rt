@@ -1,2 +1,4 @@
 // Delta pages: scan.
+#![tactic(auto)]
+
 pub mod scanning;

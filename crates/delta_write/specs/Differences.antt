@@ -3,7 +3,7 @@ use Rattle.std.specs.Prelude.{◌≡◌, ℕ, ◌+◌, ◌-◌, ◌%◌, ◌^◌
 use Rattle.std.proofs.Common.{sym, ◌∙◌, mod-eq_of_lt, add_comm, arith}
 use Rattle.std.proofs.Math.Path.{ap}
 use Rattle.std.proofs.Math.Nat.{mod-add-mod, add-mod_right}
-use Rattle.std.proofs.Math.IntN.{-ℤ-+ℤ_cancel}
+use Rattle.std.proofs.Math.IntN as IntN
 use Rattle.rules.specs.Signed.{modulo, Within, gap}
 use Rattle.signed.specs.Remainders.{modulo_lt, modulo_add}
 use Rattle.signed.specs.Gaps.{gap_is, gap_lt}
@@ -21,7 +21,7 @@ module _ (W : ℕ) where
   pub difference_kept : (r : ℕ) (y x : ℤ) → r < 2 ^ W → (r + modulo W x) % 2 ^ W ≡ modulo W y → r ≡ modulo W (y -ℤ x)
   difference_kept r y x h e =
       cancel r (modulo W (y -ℤ x)) (modulo W x) h (modulo_lt W (y -ℤ x)) (modulo_lt W x)
-      (e ∙ ap (modulo W) (sym (-ℤ-+ℤ_cancel y x)) ∙ modulo_add W (y -ℤ x) x)
+      (e ∙ ap (modulo W) (sym (IntN.-ℤ-+ℤ_cancel y x)) ∙ modulo_add W (y -ℤ x) x)
 
   -- and how far y is above x, where both have W bits
   pub difference_gap : (r : ℕ) (y x : ℤ) → Within W y → Within W x → int_le x y ≡ true → r < 2 ^ W

@@ -1,4 +1,6 @@
 // Dictionary columns: scan.
+#![tactic(auto)]
+
 pub mod judging;
 pub mod scanning;
 pub mod searching;

@@ -1,3 +1,5 @@
 // Bare horizontal pages: scan.
+#![tactic(auto)]
+
 pub mod judging;
 pub mod scanning;

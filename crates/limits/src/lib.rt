@@ -1,9 +1,11 @@
 // The column kinds: the limit numbers belong to them, and every argument check asks them here.
+#![tactic(auto)]
+
 ghost use Rattle.std.specs.Prelude.{◌≡◌};
 ghost use Rattle.rules.specs.Answer.{count_fault, limit_fault};
 
 // Columns of unsigned entries, whose width is an argument: horizontal and vertical pages, run streams.
-#[derive(Drop)]
+#[derive(Clone, Copy)]
 pub struct Unsigned {
     pub width: u32,
     pub entries: usize,
@@ -45,7 +47,7 @@ pub fn unsigned_fault(width: u32, n: usize) -> u32
 }
 
 // Columns of signed entries, whose widths are in the page: delta pages, dictionary columns.
-#[derive(Drop)]
+#[derive(Clone, Copy)]
 pub struct Signed {
     pub entries: usize,
 }

@@ -1,4 +1,6 @@
 // A line of text: laid out first, then written. What is past its 120 places is left out.
+#![tactic(auto)]
+
 ghost use Rattle.std.specs.Prelude.{◌≡◌, [], ◌∷◌, ◌<◌, ◌-◌, min, take};
 ghost use Rattle.lines.specs.Text.{held, laid, decimal, hex_digit, hexadecimal, spelled, padding};
 

@@ -4,6 +4,8 @@
 // (`each`). Several at once stand in slots that are wider than they (`slots`): bit w of a sum says whether
 // an entry is low or more, bit w of a difference whether it is high or less, and no slot reaches the next
 // (`slot-test` in specs/SlotTests.antt).
+#![tactic(auto)]
+
 pub mod each;
 pub mod eights;
 pub mod fours;

@@ -1,5 +1,7 @@
 // Packed entries of a whole page compared where they lie: its groups, those at its end with zeros behind
 // them, and the last byte's unused bits.
+#![tactic(auto)]
+
 ghost use Rattle.std.specs.Prelude.{◌≡◌, ◌+◌, ◌*◌, ◌≤◌, ◌<◌, length, drop};
 ghost use Rattle.rules.specs.Bits.{ceil, put};
 ghost use Rattle.rules.specs.Horizontal.{page_bytes};

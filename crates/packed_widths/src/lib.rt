@@ -1,6 +1,8 @@
 // The kernel for each width. A literal width in each arm has the compiler copy the kernel and fold what
 // depends on the width alone: only below a certain cost, which `tools/inlined` watches, since no proof and
 // no test shows it.
+#![tactic(auto)]
+
 ghost use Rattle.std.specs.Prelude.{◌≡◌, ◌+◌, ◌*◌, ◌≤◌, length};
 ghost use Rattle.rules.specs.Bits.{put};
 ghost use Rattle.compare.specs.Range.{Usable};

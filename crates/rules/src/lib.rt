@@ -1,22 +1,23 @@
 // The answers that definitions and code share; there is no code here.
+#![tactic(auto)]
 
 // A code and a number.
 #[repr(C)]
-#[derive(Drop)]
+#[derive(Clone, Copy)]
 pub struct Answer {
     pub code: u32,
     pub number: u32,
 }
 
 // One group of 64 entries in bit planes, compared: a bit for each, and how many planes were taken.
-#[derive(Drop)]
+#[derive(Clone, Copy)]
 pub struct Compared {
     pub bits: u64,
     pub taken: usize,
 }
 
 // A variable-length number read at a place: its value with the next place, or why there is none.
-#[derive(Drop)]
+#[derive(Clone, Copy)]
 pub enum Number {
     Read(u64, usize),
     Ended,
@@ -24,7 +25,7 @@ pub enum Number {
 }
 
 // One run read at a place, with the next place; or the code of what is wrong with it.
-#[derive(Drop)]
+#[derive(Clone, Copy)]
 pub enum Run {
     Repeated {
         count: usize,
@@ -42,7 +43,7 @@ pub enum Run {
 // One run asked for by itself, as numbers: the packed bytes by their place on the page and how many they
 // are.
 #[repr(C)]
-#[derive(Drop)]
+#[derive(Clone, Copy)]
 pub struct RunAnswer {
     pub code: u32,
     pub kind: u32,
@@ -54,7 +55,7 @@ pub struct RunAnswer {
 }
 
 // The next run of the writer: how many equal entries, or how many groups of 8.
-#[derive(Drop)]
+#[derive(Clone, Copy)]
 pub enum Next {
     Repeats(usize),
     Packs(usize),
@@ -62,7 +63,7 @@ pub enum Next {
 
 // The header of a delta page: block size, miniblocks per block, the first value's number, the next place;
 // or a code.
-#[derive(Drop)]
+#[derive(Clone, Copy)]
 pub enum Head {
     Opened(u64, u64, u64, usize),
     Unopened(u32),
@@ -70,7 +71,7 @@ pub enum Head {
 
 // A block of a delta page: the smallest delta's number, the place of its width bytes, the next block's
 // place; or a code.
-#[derive(Drop)]
+#[derive(Clone, Copy)]
 pub enum Block {
     Laid(u64, usize, usize),
     Unlaid(u32),

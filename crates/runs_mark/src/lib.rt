@@ -2,6 +2,8 @@
 // most 56 entries as one word, a longer one as a byte's rest, whole bytes and a byte's beginning; a packed
 // run straight into the bitmap where it begins at a byte, and else through a local array, 448 entries at a
 // time.
+#![tactic(auto)]
+
 pub mod bits;
 pub mod packed;
 pub mod same;

@@ -5,7 +5,7 @@ ghost use Rattle.rules.specs.Runs.{one_at};
 use crate::one::one_at;
 use rules::Run;
 
-#[derive(Drop)]
+#[derive(Clone, Copy)]
 pub struct RunReader<'a> {
     pub page: &'a [u8],
     pub at: usize,

@@ -1,2 +1,4 @@
 // Run streams: scan.
+#![tactic(auto)]
+
 pub mod scanning;

@@ -1,4 +1,6 @@
 // The program `scan`: which seconds of a column satisfy a comparison, and where in its days they lie.
+#![tactic(auto)]
+
 mod asking;
 mod column;
 mod keeping;

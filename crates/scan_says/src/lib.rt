@@ -1,5 +1,7 @@
 // What the program says besides its answer, in sentences that say what to do: all but its help and its
 // version on standard error.
+#![tactic(auto)]
+
 ghost use Rattle.std.specs.Prelude.{◌≡◌, false, ◌≤◌};
 
 use check::same;

@@ -6,14 +6,14 @@ ghost use Rattle.scan_words.specs.Numbers.{constant_of};
 use signed::zigzag::unzig;
 
 // A signed number of 64 bits, or none.
-#[derive(Drop)]
+#[derive(Clone, Copy)]
 pub enum Constant {
     Is(i64),
     Nothing,
 }
 
 // A count of at most 32 bits, or none.
-#[derive(Drop)]
+#[derive(Clone, Copy)]
 pub enum Count {
     Is(u32),
     Nothing,

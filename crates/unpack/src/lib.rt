@@ -1,4 +1,6 @@
 // Whole pages and columns unpacked: their entries into places.
+#![tactic(auto)]
+
 pub mod delta;
 pub mod dictionary;
 mod dictionary_lookup;

@@ -82,6 +82,7 @@ finds top (suc k) s (more {b} h r) l m = rw (le-ltb b 128 h, finds top k s r (om
 pub one_way : {t : List ℕ} {v u : ℕ} → Spells t v → Spells t u → v ≡ u
 one_way (last h) (last k) = refl
 one_way (more {b} h p) (last k) = absurd (omega arith)
+one_way (last {b = b} h) (more {v = v} k q) = absurd (omega arith)
 one_way (more {b} h p) (more k q) = ap (λ (x : ℕ). b % 128 + 128 * x) (one_way p q)
 
 pub spells-some : {t : List ℕ} {v : ℕ} → Spells t v → 0 < length t

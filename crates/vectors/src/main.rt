@@ -1,5 +1,7 @@
 // Published vectors, run through the proved functions and compared: document 01's examples that are not in
 // the proved table, and Parquet's own.
+#![tactic(auto)]
+
 mod delta;
 mod dictionary;
 mod horizontal;

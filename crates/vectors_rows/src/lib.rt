@@ -1,5 +1,7 @@
 // Rows of a table of vectors: what was asked, what came of it, and a word at the end where that is not as
 // published.
+#![tactic(auto)]
+
 pub mod signed_entries;
 
 ghost use Rattle.std.specs.Prelude.{◌≡◌, ◌&&◌, eqb};

@@ -5,7 +5,7 @@ ghost use Rattle.rules.specs.Planes.{undecided};
 ghost use Rattle.vertical_compare.specs.Ends.{below, bits_of, laid, Spread};
 
 // How the 64 lanes stand to one end before the first plane: below it, or undecided; else above it.
-#[derive(Drop)]
+#[derive(Clone, Copy)]
 pub struct End {
     pub less: u64,
     pub undecided: u64,

@@ -9,7 +9,7 @@ use compare::bands::Band;
 use rules::Compared;
 
 // How the lanes of each stand.
-#[derive(Drop)]
+#[derive(Clone, Copy)]
 pub struct Four {
     pub first: Lanes,
     pub second: Lanes,
@@ -18,7 +18,7 @@ pub struct Four {
 }
 
 // One plane of each.
-#[derive(Drop)]
+#[derive(Clone, Copy)]
 pub struct FourPlanes {
     pub first: u64,
     pub second: u64,
@@ -27,7 +27,7 @@ pub struct FourPlanes {
 }
 
 // What comparing each gives.
-#[derive(Drop)]
+#[derive(Clone, Copy)]
 pub struct FourCompared {
     pub first: Compared,
     pub second: Compared,

@@ -8,7 +8,7 @@ use compare::bands::Band;
 
 // How the 64 lanes stand to a band after the planes taken: undecided against one of its ends, of these against the
 // high one where `upper` has a bit, and known to be outside.
-#[derive(Drop)]
+#[derive(Clone, Copy)]
 pub struct Lanes {
     pub undecided: u64,
     pub upper: u64,

@@ -1,4 +1,6 @@
 // Groups of 64 entries in bit planes, compared with both ends of a band at once.
+#![tactic(auto)]
+
 pub mod ends;
 pub mod four;
 pub mod groups;

@@ -1,5 +1,7 @@
 // Bytes, words and bits: loads, stores, one packed entry, bits behind bits; what is left of a count. Their
 // laws stand in specs/.
+#![tactic(auto)]
+
 pub mod bits;
 pub mod counts;
 pub mod entries;

@@ -1,0 +1,25 @@
+-- `compare::ranges::range_of` meets its contract: the band's ends are read back from their bits, and the last is at
+-- most 2^32.
+use Rattle.std.proofs.Common.{◌∙◌, w64, to_z, of_z, rules}
+use mir.ValLaws.{to_z-of_z}
+use Rattle.compare.specs.Range.{range_of}
+use Rattle.compare.specs.Cuts.{next_le}
+use Rattle.compare.proofs.ranges.range_of.Goals as goal
+
+pub range_to-requires : goal.range_to-requires
+range_to-requires c =
+    rw c.next.ensures (next_le (to_z w64 (of_z w64 c.args.band.high)))
+
+pub returns : goal.returns
+unfolding range_of
+returns c =
+    let s = c in
+    let band = s.args.band in
+    let fits = s.struct_told-1.given in
+    c.range_to.ensures
+    ∙ rw (
+      c.cut.ensures,
+      c.next.ensures,
+      to_z-of_z w64 band.low (record { sfits = fits.0.1 }),
+      to_z-of_z w64 band.high (record { sfits = fits.1.0.1 }),
+    )

@@ -1,0 +1,18 @@
+-- `packed_kernels::fours::four_in` meets its contract: two pairs of digits side by side.
+use Rattle.std.proofs.Common.{arith, rules}
+use Rattle.packed_kernels.specs.SlotTests.{tested}
+use Rattle.packed_kernels.specs.Folded.{four_fits, four_tests}
+use Rattle.packed_kernels.proofs.fours.four_in.Goals as goal
+
+pub overflow_add-result : goal.overflow_add-result
+overflow_add-result c =
+    let a = c.args in
+    record {
+      fits = four_fits a.w (tested a.low a.high a.w a.x) c.pair_tests-y.result (omega arith)
+          c.pair_tests-y.ensures (omega arith);
+    }
+
+pub returns : goal.returns
+returns c =
+    let a = c.args in record { told = four_tests a.w (tested a.low a.high a.w a.x) c.pair_tests-y.result (omega arith)
+          c.pair_tests-y.ensures; small = omega arith }

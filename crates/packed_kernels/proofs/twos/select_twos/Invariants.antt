@@ -1,0 +1,11 @@
+-- `packed_kernels::twos::select_twos` meets its contract. The loop's invariant: the bytes of the groups passed are
+use Rattle.std.proofs.Common.{◌-◌, arith}
+use Rattle.packed_kernels.specs.GroupByGroup.{group_within, Passed, none_passed, next-passed, all_passed}
+use Rattle.packed_kernels.proofs.twos.select_twos.Given as goal
+
+abbrev pub invariant-loop-g : goal.invariant-loop-g
+invariant-loop-g l =
+    Passed l.page l.initial.bitmap l.m l.w l.low l.span l.flip l.bitmap l.g l.at
+
+abbrev pub decreases-loop-g : goal.decreases-loop-g
+decreases-loop-g l = l.m - l.g

@@ -1,0 +1,11 @@
+-- `packed_kernels::wholes::select_wholes` meets its contract. The loop's invariant: the bytes of the groups passed
+use Rattle.std.proofs.Common.{◌-◌, arith}
+use Rattle.packed_kernels.specs.GroupByGroup.{group_within, Passed, none_passed, next-passed, all_passed}
+use Rattle.packed_kernels.proofs.wholes.select_wholes.Given as goal
+
+abbrev pub invariant-loop-g : goal.invariant-loop-g
+invariant-loop-g l =
+    Passed l.page l.initial.bitmap l.m 32 l.low l.span l.flip l.bitmap l.g l.at
+
+abbrev pub decreases-loop-g : goal.decreases-loop-g
+decreases-loop-g l = l.m - l.g

@@ -1,0 +1,18 @@
+-- `varints::reading::number_at` meets its contract: the sum below its weight is what the bytes passed spell, and
+use mathlib.Core.Path.{◌≡◌}
+use Prim.Native.Nat.{◌+◌, ◌*◌, ◌-◌, ◌%◌, ◌^◌, ◌<◌, ◌≤◌}
+use native.Mathlib.Omega.{arith}
+use lib.ListN.{drop, get_or}
+use borrow.Author.Tests.{lt-ltb, le-ltb}
+use borrow.Author.Rules.{rules}
+use Rattle.rules.specs.Varint.{uleb, number_at}
+use Rattle.varints.specs.ByteByByte.{scaled, scaled-one, scaled-below, ended, step, final, digit, room}
+use Rattle.varints.proofs.reading.number_at.Given as goal
+
+abbrev pub invariant-loop-left : goal.invariant-loop-left
+invariant-loop-left l =
+    (number_at 32 l.page l.at ≡ scaled l.scale l.sum l.i (uleb 16 l.left (drop l.i l.page))) × (l.sum < l.scale)
+    × (l.scale * 128 ^ l.left ≡ 2 ^ 28)
+
+abbrev pub decreases-loop-left : goal.decreases-loop-left
+decreases-loop-left l = l.left

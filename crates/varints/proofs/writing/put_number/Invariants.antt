@@ -1,0 +1,18 @@
+-- `varints::writing::put_number` meets its contract: each turn stores seven bits, and what is left is to be put
+use mathlib.Core.Path.{◌≡◌, refl, ◌∙◌}
+use Prim.Native.Nat.{◌+◌}
+use native.Mathlib.Omega.{arith}
+use lib.ListN.{length, length-set}
+use Rattle.rules.specs.Bits.{put}
+use Rattle.rules.specs.Shortest.{shortest}
+use Rattle.varints.specs.Shortness.{shortest-some}
+use Rattle.varints.specs.Stored.{stored_more, stored_last}
+use Rattle.varints.proofs.writing.put_number.Given as goal
+
+abbrev pub invariant-loop-rest : goal.invariant-loop-rest
+invariant-loop-rest l =
+    (length l.page ≡ length l.initial.page) × (put l.page l.i (shortest l.rest) ≡ put l.initial.page l.at (shortest l.x))
+    × (l.i + length (shortest l.rest) ≡ l.at + length (shortest l.x))
+
+abbrev pub decreases-loop-rest : goal.decreases-loop-rest
+decreases-loop-rest l = l.rest

@@ -1,0 +1,17 @@
+-- `words::stores::store_each` meets its contract: each turn stores one byte more.
+use mathlib.Core.Path.{◌≡◌, sym}
+use Prim.Native.Nat.{◌-◌, ◌/◌, ◌^◌, ◌≤◌}
+use native.Mathlib.Nat.{div-one, div-div-eq-div-mul, pow-suc}
+use native.Mathlib.Numerals.{add-one}
+use native.Mathlib.Omega.{arith}
+use lib.ListN.{length, length-set}
+use Rattle.rules.specs.Bits.{bytes, put}
+use Rattle.words.specs.Bytes.{put_next}
+use Rattle.words.specs.Puts.{put-none}
+use Rattle.words.proofs.stores.store_each.Given as goal
+
+abbrev pub invariant-loop-k : goal.invariant-loop-k
+invariant-loop-k l = (l.k ≤ l.n) × (length l.s ≡ length l.initial.s) × (l.v ≡ l.x / 256 ^ l.k) × (l.s ≡ put l.initial.s l.at (bytes l.k l.x))
+
+abbrev pub decreases-loop-k : goal.decreases-loop-k
+decreases-loop-k l = l.n - l.k
