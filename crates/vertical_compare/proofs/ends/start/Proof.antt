@@ -1,7 +1,8 @@
--- `vertical_compare::ends::start` meets its contract: the constant is read back from its bits, and the
--- tests place it below, within or above.
+-- `vertical_compare::ends::start` meets its contract: the constant is read back from its bits, and the tests place
+-- it below, within or above.
 use mathlib.Core.Path.{◌≡◌}
 use mathlib.Core.Bool.{false}
+use mathlib.Core.List.{[]}
 use Prim.Native.Nat.{◌^◌}
 use native.Mathlib.Omega.{arith}
 use lib.IntN.{pos}
@@ -23,7 +24,7 @@ not-below c = rw (back c.before) at c.if1.false
 returns : tie.Need-returns
 returns c =
     let a = c.before.args in
-    start_below a.w a.constant (rw (back c.before) at c.if1.true)
+    start_below 64 [] a.w a.constant (rw (back c.before) at c.if1.true)
 
 cast-c : tie.Need-overflow-cast-c
 cast-c c =
@@ -31,18 +32,18 @@ cast-c c =
     let fits = whole s.args.constant (2 ^ 63) (not-below c) s.ranges.constant.sfits in
     rw (back s) (fits.0, omega (arith, fits.1))
 
-shr-if2 : tie.Need-overflow-shr-if2
-shr-if2 c = search rules
-
 returns-2 : tie.Need-returns-2
 returns-2 c =
     let s = c.before.before in
-    start_within s.args.w s.args.constant (not-below c.before) (rw (back s) at c.if2.true)
+    rw (back s)
+    (start_within 64 [] s.args.w s.args.constant (not-below c.before)
+    (rw (back s) at c.if2.true))
 
 returns-3 : tie.Need-returns-3
 returns-3 c =
     let s = c.before.before in
-    start_above s.args.w s.args.constant (not-below c.before) (rw (back s) at c.if2.false)
+    rw (back s)
+    (start_above 64 [] s.args.w s.args.constant (not-below c.before) (rw (back s) at c.if2.false))
 
 pub start_spec : {M : Type 1} → statement M
-start_spec = tie.close (tie.spec returns cast-c shr-if2 returns-2 returns-3)
+start_spec = tie.close (tie.spec returns cast-c (λ c. search rules) returns-2 returns-3)
