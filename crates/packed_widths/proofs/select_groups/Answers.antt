@@ -1,7 +1,5 @@
 -- `packed_widths::select_groups` meets its contract: in each arm the width is the literal, and so is what the
 -- kernel there requires and ensures.
-use native.Mathlib.Omega.{arith}
-use borrow.Author.Rules.{rules}
 use Rattle.packed_widths.proofs.select_groups.Goals as goal
 
 pub returns-in-7 : goal.returns-in-7
