@@ -5,17 +5,15 @@ use Prim.Native.Nat.{ℕ, ◌+◌, ◌-◌}
 use native.Mathlib.Omega.{arith}
 use lib.ListN.{length, take, drop, length-drop}
 use lib.Seq.{length-take-le}
-use borrow.Author.Rules.{rules}
 use Rattle.rules.specs.Bits.{put}
 use Rattle.rules.specs.Bits.Order.{low_first}
 use Rattle.rules.specs.Horizontal.{packed}
 use Rattle.words.specs.Puts.{part_put, part_rest}
-use Rattle.packed_entries.proofs.packing.pack_part.Statement.{statement}
-use Rattle.packed_entries.proofs.packing.pack_part.Tie as tie
+use Rattle.packed_entries.proofs.packing.pack_part.Goals as goal
 
-pack-requires : tie.Need-pack-requires
-pack-requires c κs =
-    let a = c.before.before.before.before.args in
+pub pack-requires : goal.pack-requires
+pack-requires c =
+    let a = c.args in
     let s = a.entries.now in
     let m : a.p + a.m - a.p ≡ a.m = omega arith in
     let size : length (take a.m (drop a.p s)) ≡ a.m =
@@ -23,22 +21,15 @@ pack-requires c κs =
     rw m (
       omega arith,
       omega arith,
-      c.before.before.before.before.requires.3,
+      c.requires.3,
       rw (size, part_rest, length-drop) (omega arith),
     )
 
-returns : tie.Need-returns
+pub returns : goal.returns
 returns c =
-    let a = c.before.before.before.before.before.before.before.args in
+    let a = c.args in
     let m : a.p + a.m - a.p ≡ a.m = omega arith in
-    part_put a.page.now _ _ a.from c.before.before.pack.ensures
+    part_put a.page.now _ _ a.from c.pack.ensures
     ∙ ap
     (λ (k : ℕ). put a.page.now a.from (packed low_first a.w (take k (drop a.p a.entries.now))))
     m
-
-pub pack-part-spec : {M : Type 1} → statement M
-pack-part-spec =
-    tie.close
-    (tie.spec
-    (λ c. search rules) (λ c. search rules) (λ c. search rules) (λ c. search rules) (λ c. search rules)
-    (λ c. search rules) (λ c. search rules) (λ c. search rules) pack-requires (λ c. search rules) returns)
