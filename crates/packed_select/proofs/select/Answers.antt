@@ -10,16 +10,14 @@ use Rattle.packed_select.proofs.select.Goals as goal
 
 pub front-m-requires : goal.front-m-requires
 front-m-requires c =
-    let s = c in
-    let a = s.args in
+    let a = c.args in
     let q = (a.n + 7) / 8 in
     let len = length a.page.now in
-    omega (arith, page_le a.n a.w q len refl s.requires.2 s.requires.3)
+    omega (arith, page_le a.n a.w q len refl c.requires.2 c.requires.3)
 
 pub tail-requires : goal.tail-requires
 tail-requires c =
-    let s = c in
-    let a = s.args in
+    let a = c.args in
     let q = (a.n + 7) / 8 in
     let len = length a.page.now in
     let m = c.front-m.result in
@@ -27,7 +25,7 @@ tail-requires c =
     let part : length (take (length l - m) (drop m l)) ≡ length l - m = ap length (part_rest l m) ∙ length-drop m l in
     omega (
       arith,
-      tail_small a.n a.w q len refl s.requires.2 s.requires.3 m (omega arith) (omega arith) (omega arith),
+      tail_small a.n a.w q len refl c.requires.2 c.requires.3 m (omega arith) (omega arith) (omega arith),
     )
 
 pub returns : goal.returns

@@ -1,7 +1,6 @@
 -- `horizontal_scan::judging::page_fault` meets its contract: each test is one of the listed faults.
 use Prim.Native.Nat.{◌<◌, ◌≤◌}
 use native.Mathlib.Omega.{arith}
-use borrow.Author.Rules.{rules}
 use borrow.Author.Tests.{lt-ltb, le-ltb}
 use Rattle.rules.specs.Bits.Order.{low_first}
 use Rattle.rules.specs.Answer.{◌then◌}

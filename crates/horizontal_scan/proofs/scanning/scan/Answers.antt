@@ -3,7 +3,6 @@ use mathlib.Core.Path.{◌≡◌, sym, ◌∙◌}
 use Prim.Native.Nat.{◌*◌}
 use mir.Syntax.{w64}
 use mir.ValLaws.{to_z-of_z}
-use borrow.Author.Rules.{rules}
 use Rattle.rules.specs.Answer.{limit_fault}
 use Rattle.rules.specs.Bits.{entry}
 use Rattle.rules.specs.Bits.Order.{low_first}
@@ -15,40 +14,27 @@ use Rattle.horizontal_scan.proofs.scanning.scan.Goals as goal
 
 pub scan_band-requires : goal.scan_band-requires
 scan_band-requires c =
-    let judgement : let a = c.args in
-    arguments_of (limit_fault a.width a.n) a.op a.a a.b ≡ c.arguments_of-arguments.result = let s = c in
-    sym
-    (rw (to_z-of_z w64 s.args.a s.ranges.a, to_z-of_z w64 s.args.b s.ranges.b) at
-    c.arguments_of-arguments.ensures) in
-    let s = c in
-    unsigned-limits _ _ _ _ _ _ (judgement ∙ s.in-Good.is)
+    let a = c.args in
+    let judgement : arguments_of (limit_fault a.width a.n) a.op a.a a.b ≡ c.arguments_of-arguments.result =
+    sym (rw (to_z-of_z w64 a.a c.ranges.a, to_z-of_z w64 a.b c.ranges.b) at c.arguments_of-arguments.ensures) in
+    unsigned-limits _ _ _ _ _ _ (judgement ∙ c.in-Good.is)
 
 pub returns-in-Bad : goal.returns-in-Bad
 unfolding Horizontal.scan
 returns-in-Bad c =
-    let judgement : let a = c.args in
-    arguments_of (limit_fault a.width a.n) a.op a.a a.b ≡ c.arguments_of-arguments.result = let s = c in
-    sym
-    (rw (to_z-of_z w64 s.args.a s.ranges.a, to_z-of_z w64 s.args.b s.ranges.b) at
-    c.arguments_of-arguments.ensures) in
-    let s = c in
-    let f = s in
-    let a = f.args in
+    let a = c.args in
+    let judgement : arguments_of (limit_fault a.width a.n) a.op a.a a.b ≡ c.arguments_of-arguments.result =
+    sym (rw (to_z-of_z w64 a.a c.ranges.a, to_z-of_z w64 a.b c.ranges.b) at c.arguments_of-arguments.ensures) in
     scan-bad (limit_fault a.width a.n) a.op a.a a.b _ _ _ _ _ _
-    (judgement ∙ s.in-Bad.is) c.refused.ensures
+    (judgement ∙ c.in-Bad.is) c.refused.ensures
 
 pub returns-in-Good : goal.returns-in-Good
 unfolding Horizontal.scan
 returns-in-Good c =
-    let judgement : let a = c.args in
-    arguments_of (limit_fault a.width a.n) a.op a.a a.b ≡ c.arguments_of-arguments.result = let s = c in
-    sym
-    (rw (to_z-of_z w64 s.args.a s.ranges.a, to_z-of_z w64 s.args.b s.ranges.b) at
-    c.arguments_of-arguments.ensures) in
-    let s = c in
-    let f = s in
-    let a = f.args in
-    let good = judgement ∙ s.in-Good.is in
+    let a = c.args in
+    let judgement : arguments_of (limit_fault a.width a.n) a.op a.a a.b ≡ c.arguments_of-arguments.result =
+    sym (rw (to_z-of_z w64 a.a c.ranges.a, to_z-of_z w64 a.b c.ranges.b) at c.arguments_of-arguments.ensures) in
+    let good = judgement ∙ c.in-Good.is in
     unsigned-good a.width a.n a.op a.a a.b _ good _ (entry low_first a.page.now a.width) _ _ _
     (λ i. field-small a.page.now (i * a.width) a.width (unsigned-limits _ _ _ _ _ _ good).0)
     c.scan_band.ensures

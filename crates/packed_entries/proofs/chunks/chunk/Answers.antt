@@ -48,13 +48,12 @@ overflow_shl-x c =
 
 pub loop-j-preserved : goal.loop-j-preserved
 loop-j-preserved c =
-    let s = c in
-    let a = s.args in
+    let a = c.args in
     let l = c.loop-j in (
       omega arith,
       rw l.invariant.1
           (entry_more a.entries.now a.i a.k a.w l.j (omega arith) (omega arith)
-          (small_of a.w a.entries.now s.requires.2) (omega arith)),
+          (small_of a.w a.entries.now c.requires.2) (omega arith)),
     )
 
 pub returns : goal.returns

@@ -42,20 +42,18 @@ overflow_add-i c =
 
 pub chunk-requires : goal.chunk-requires
 chunk-requires c =
-    let s = c in
-    let a = s.args in
-    (omega arith, omega (arith, place-within a.k c.loop-j.j a.c (omega arith)), s.requires.5)
+    let a = c.args in
+    (omega arith, omega (arith, place-within a.k c.loop-j.j a.c (omega arith)), c.requires.5)
 
 pub append_at-requires : goal.append_at-requires
 append_at-requires c =
-    let s = c in
-    let a = s.args in
+    let a = c.args in
     let j = c.loop-j.j in
     let place = place-within a.k j a.c (omega arith) in
     let at = a.i + j * a.k in
-    let small = small-drop a.w at a.entries.now (small_of a.w a.entries.now s.requires.5) in (
+    let small = small-drop a.w at a.entries.now (small_of a.w a.entries.now c.requires.5) in (
       omega arith,
-      mul-pos s.requires.1 s.requires.2,
+      mul-pos c.requires.1 c.requires.2,
       rw c.chunk.ensures
           (first_below a.w a.k (drop at a.entries.now) (rw length-drop (omega arith)) small),
       omega (arith, place-within (a.k * a.w) j a.c (omega arith), mul_assoc a.c a.k a.w),
@@ -63,12 +61,11 @@ append_at-requires c =
 
 pub loop-j-preserved : goal.loop-j-preserved
 loop-j-preserved c =
-    let s = c in
-    let a = s.args in
+    let a = c.args in
     let l = c.loop-j in
     let laid = c.append_at in
     let xs = drop a.i a.entries.now in
-    let small = small-drop a.w a.i a.entries.now (small_of a.w a.entries.now s.requires.5) in
+    let small = small-drop a.w a.i a.entries.now (small_of a.w a.entries.now c.requires.5) in
     let there : l.j * a.k + a.k ≤ length xs = rw length-drop
     (omega (arith, place-within a.k l.j a.c (omega arith))) in (
       omega arith,

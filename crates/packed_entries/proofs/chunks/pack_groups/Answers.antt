@@ -37,17 +37,16 @@ slice_bounds-pack_chunks-start c =
 
 pub pack_chunks-requires : goal.pack_chunks-requires
 pack_chunks-requires c =
-    let s = c in
-    let a = s.args in
+    let a = c.args in
     let l = c.loop-g in
     let k = c.at_once-k in
     let group = place-within a.w l.g a.m (omega arith) in (
       div-le_self 8 k.result,
       k.ensures.0,
-      s.requires.0,
+      c.requires.0,
       k.ensures.1,
       rw k.ensures.2 (omega arith),
-      s.requires.3,
+      c.requires.3,
       rw (k.ensures.2, part_rest, length-drop) (omega arith),
     )
 
@@ -58,8 +57,7 @@ overflow_add-at c =
 
 pub loop-g-preserved : goal.loop-g-preserved
 loop-g-preserved c =
-    let s = c in
-    let a = s.args in
+    let a = c.args in
     let l = c.loop-g in
     let eight = c.at_once-k.ensures.2 in
     let group = place-within a.w l.g a.m (omega arith) in
@@ -68,7 +66,7 @@ loop-g-preserved c =
       omega arith,
       omega (arith, add-mul l.g 1 a.w),
       laid-behind a.page.now a.entries.now a.w l.g 8 l.at (omega arith)
-          (small_of a.w a.entries.now s.requires.3) l.invariant.2 (omega arith) l.invariant.3
+          (small_of a.w a.entries.now c.requires.3) l.invariant.2 (omega arith) l.invariant.3
           (rw eight at (part_put l.page _ _ l.at c.pack_chunks.ensures))
           ∙ ap (λ (n : ℕ). put a.page.now 0 (packed low_first a.w (take n a.entries.now))) more,
     )

@@ -41,12 +41,11 @@ overflow_mul-at c =
 
 pub pack_of_width-requires : goal.pack_of_width-requires
 pack_of_width-requires c =
-    let s = c in
-    let a = s.args in (
+    let a = c.args in (
       omega (arith, c.if-w-eq0.false),
       omega arith,
       omega arith,
-      s.requires.2,
+      c.requires.2,
       omega (arith, bytes-of-both a.w (length a.entries.now)),
     )
 
@@ -62,28 +61,25 @@ slice_bounds-pack_chunks-start c =
 
 pub pack_chunks-requires : goal.pack_chunks-requires
 pack_chunks-requires c =
-    let e = c in
-    let s = e in
-    let a = s.args in
+    let a = c.args in
     let n = length a.entries.now in (
       omega arith,
       omega arith,
-      omega (arith, e.if-w-eq0.false),
+      omega (arith, c.if-w-eq0.false),
       omega (arith, one-mul a.w),
       omega (arith, mul-one (n % 8)),
-      s.requires.2,
+      c.requires.2,
       rw (mul-one, part_rest, length-drop) (omega (arith, bytes-of-both a.w n)),
     )
 
 pub returns : goal.returns
 returns c =
-    let s = c in
-    let a = s.args in
+    let a = c.args in
     let xs = a.entries.now in
     let n = length xs in
     let groups = c.pack_of_width in
     let whole : take (8 * (n / 8) + n % 8) xs ≡ xs = take_all (8 * (n / 8) + n % 8) xs (omega arith) in
     laid-behind a.page.now xs a.w (n / 8) (n % 8) (n / 8 * a.w) (omega arith)
-    (small_of a.w xs s.requires.2) refl (omega (arith, bytes-of-both a.w n)) groups.ensures
+    (small_of a.w xs c.requires.2) refl (omega (arith, bytes-of-both a.w n)) groups.ensures
     (rw mul-one at (part_put groups.new.page _ _ (n / 8 * a.w) c.pack_chunks.ensures))
     ∙ ap (λ ys. put a.page.now 0 (packed low_first a.w ys)) whole

@@ -52,13 +52,12 @@ append_at-requires-2 c =
 
 pub returns : goal.returns
 returns c =
-    let s = c in
-    let a = s.args in
+    let a = c.args in
     let l = c.loop-i in
     let n = number a.bits.now in
     let rest = a.k - 8 * l.i in
     let whole : a.k ≡ 8 * l.i + rest = omega arith in
-    let fits : n < 2 ^ (8 * l.i + rest) = rw (← whole) s.requires.3 in
+    let fits : n < 2 ^ (8 * l.i + rest) = rw (← whole) c.requires.3 in
     let stored : c.append_at-2.new.out
     ≡ appended l.bitmap (a.p + 8 * l.i) (n / 2 ^ (8 * l.i) % 2 ^ 56) rest =
     c.append_at-2.ensures

@@ -1,15 +1,9 @@
 -- `runs_mark::bits::append_bits` meets its contract. The loop's invariant: the first 8 × i bits are in place.
-use mathlib.Core.Path.{◌≡◌, sym, ap, subst, ◌∙◌}
-use borrow.Author.Rules.{rules}
-use Prim.Native.Nat.{ℕ, ◌+◌, ◌-◌, ◌*◌, ◌/◌, ◌%◌, ◌^◌, ◌<◌}
-use native.Mathlib.Omega.{arith}
-use native.Mathlib.Nat.{mod-lt}
-use lib.Pow.{pow_pos}
+use mathlib.Core.Path.{◌≡◌}
+use Prim.Native.Nat.{◌-◌, ◌*◌, ◌%◌, ◌^◌, ◌<◌}
 use lib.ListN.{length}
 use Rattle.rules.specs.Bits.{number}
-use Rattle.words.specs.Appended.{appended}
 use Rattle.runs_mark.specs.SeveralGoes.{Begun}
-use Rattle.runs_mark.specs.PieceByPiece.{pieces_none, pieces_more, last-piece, pieces_all}
 use Rattle.runs_mark.proofs.bits.append_bits.Given as goal
 
 abbrev pub invariant-loop-i : goal.invariant-loop-i

@@ -5,7 +5,6 @@ use native.Mathlib.Omega.{arith}
 use Rattle.words.specs.Appended.{appended}
 use Rattle.compare.specs.Range.{ranged}
 use Rattle.runs_mark.specs.BodyParts.{part_word}
-use borrow.Author.Rules.{rules}
 use Rattle.runs_mark.proofs.packed.mark_between.Goals as goal
 
 pub returns : goal.returns

@@ -2,7 +2,7 @@
 -- marked, and `at` is their bytes.
 use mathlib.Core.Path.{◌≡◌, ap, subst, ◌∙◌}
 use mathlib.Core.Bool.{Bool}
-use Prim.Native.Nat.{ℕ, ◌+◌, ◌-◌, ◌*◌, ◌≤◌, ◌<◌}
+use Prim.Native.Nat.{ℕ, ◌+◌, ◌-◌, ◌*◌, ◌≤◌}
 use native.Mathlib.Nat.{add-mul}
 use native.Mathlib.Omega.{arith}
 use lib.ListN.{length}
@@ -22,24 +22,23 @@ loop-g-init c = (omega arith, omega arith, omega arith, begun-none _ _)
 
 pub overflow_add-at : goal.overflow_add-at
 overflow_add-at c =
-    let room : let a = c.args in c.loop-g.at + 56 * a.w ≤ page_bytes a.w a.m = let s = c in
     let l = c.loop-g in
-    rw l.invariant.1 (groups-more l.g s.args.w s.args.m (omega arith)) in
+    let room : l.at + 56 * c.args.w ≤ page_bytes c.args.w c.args.m =
+    rw l.invariant.1 (groups-more l.g c.args.w c.args.m (omega arith)) in
     omega (arith, room)
 
 pub mark_between-requires : goal.mark_between-requires
 mark_between-requires c =
-    let room : let a = c.args in c.loop-g.at + 56 * a.w ≤ page_bytes a.w a.m = let s = c in
     let l = c.loop-g in
-    rw l.invariant.1 (groups-more l.g s.args.w s.args.m (omega arith)) in
-    let within = room in
+    let within : l.at + 56 * c.args.w ≤ page_bytes c.args.w c.args.m =
+    rw l.invariant.1 (groups-more l.g c.args.w c.args.m (omega arith)) in
     search rules
 
 pub overflow_add-at-in-loop-g : goal.overflow_add-at-in-loop-g
 overflow_add-at-in-loop-g c =
-    let room : let a = c.args in c.loop-g.at + 56 * a.w ≤ page_bytes a.w a.m = let s = c in
     let l = c.loop-g in
-    rw l.invariant.1 (groups-more l.g s.args.w s.args.m (omega arith)) in
+    let room : l.at + 56 * c.args.w ≤ page_bytes c.args.w c.args.m =
+    rw l.invariant.1 (groups-more l.g c.args.w c.args.m (omega arith)) in
     omega (arith, room)
 
 pub loop-g-preserved : goal.loop-g-preserved
@@ -65,10 +64,9 @@ loop-g-preserved c =
 
 pub mark_between-requires-2 : goal.mark_between-requires-2
 mark_between-requires-2 c =
-    let s = c in
     let l = c.loop-g in
-    let size : page_bytes s.args.w s.args.m ≡ l.at + page_bytes s.args.w (s.args.m - 8 * l.g) =
-    rw l.invariant.1 (groups-rest l.g s.args.w s.args.m (omega arith)) in
+    let size : page_bytes c.args.w c.args.m ≡ l.at + page_bytes c.args.w (c.args.m - 8 * l.g) =
+    rw l.invariant.1 (groups-rest l.g c.args.w c.args.m (omega arith)) in
     search rules
 
 pub returns : goal.returns

@@ -1,18 +1,11 @@
 -- `runs_mark::packed::mark_inside` meets its contract. The loop's invariant: the entries of g groups of eight are
-use mathlib.Core.Path.{◌≡◌, ap, subst, ◌∙◌}
-use mathlib.Core.Bool.{Bool}
-use Prim.Native.Nat.{ℕ, ◌+◌, ◌-◌, ◌*◌, ◌≤◌, ◌<◌}
-use native.Mathlib.Nat.{add-mul}
-use native.Mathlib.Omega.{arith}
+use mathlib.Core.Path.{◌≡◌}
+use Prim.Native.Nat.{◌-◌, ◌*◌, ◌<◌}
 use lib.ListN.{length}
-use borrow.Author.Rules.{rules}
 use Rattle.rules.specs.Bits.{word, entry}
 use Rattle.rules.specs.Bits.Order.{low_first}
-use Rattle.rules.specs.Horizontal.{page_bytes}
-use Rattle.words.specs.Appended.{appended}
 use Rattle.compare.specs.Range.{ranged}
-use Rattle.runs_mark.specs.SeveralGoes.{Begun, begun-none, begun-words, ended-words}
-use Rattle.runs_mark.specs.BodyParts.{group_word, groups-rest, groups-more}
+use Rattle.runs_mark.specs.SeveralGoes.{Begun}
 use Rattle.runs_mark.proofs.packed.mark_inside.Given as goal
 
 abbrev pub invariant-loop-g : goal.invariant-loop-g

@@ -4,7 +4,6 @@ use Prim.Native.Nat.{◌/◌}
 use native.Mathlib.Omega.{arith}
 use Rattle.compare.specs.Range.{ranged}
 use Rattle.runs_mark.specs.BodyParts.{selected-whole}
-use borrow.Author.Rules.{rules}
 use Rattle.runs_mark.proofs.packed.mark_packed.Goals as goal
 
 pub returns-then-p-eq0 : goal.returns-then-p-eq0

@@ -1,11 +1,9 @@
 -- `runs_mark::same::fill` meets its contract. The loop's invariant: the bytes passed are entries put from byte a on.
 use mathlib.Core.Path.{◌≡◌}
-use Prim.Native.Nat.{◌-◌, ◌*◌, ◌≤◌}
 use native.Mathlib.Omega.{arith}
-use lib.ListN.{length, length-set}
+use lib.ListN.{length-set}
 use Rattle.rules.specs.Bits.{word}
 use Rattle.words.specs.Bits.{word_lt}
-use Rattle.words.specs.Appended.{appended}
 use Rattle.runs_mark.specs.FromAByte.{whole-none, next-stored}
 use Rattle.runs_mark.proofs.same.fill.Goals as goal
 

@@ -5,7 +5,6 @@ use native.Mathlib.Omega.{arith}
 use Rattle.rules.specs.Bits.{word}
 use Rattle.words.specs.Appended.{appended}
 use Rattle.runs_mark.specs.SeveralGoes.{words_twice}
-use borrow.Author.Rules.{rules}
 use Rattle.runs_mark.proofs.same.mark_bytes.Goals as goal
 
 pub returns-then-m-eq0 : goal.returns-then-m-eq0

@@ -3,7 +3,6 @@
 use Prim.Native.Nat.{◌+◌, ◌-◌, ◌*◌, ◌/◌, ◌%◌}
 use native.Mathlib.Omega.{arith}
 use Rattle.runs_mark.specs.SeveralGoes.{words_twice}
-use borrow.Author.Rules.{rules}
 use Rattle.runs_mark.proofs.same.mark_same.Goals as goal
 
 pub returns : goal.returns

@@ -2,7 +2,6 @@
 use mathlib.Core.Path.{sym}
 use native.Mathlib.Omega.{arith}
 use lib.Pow.{pow_pos}
-use borrow.Author.Rules.{rules}
 use Rattle.words.specs.Bits.{one_shl, word_all, word_none}
 use Rattle.runs_mark.proofs.same.same_bits.Goals as goal
 
