@@ -20,13 +20,13 @@ use Rattle.compare.specs.Band.{band_of, bands, least, greatest}
 use Rattle.compare.specs.Operators.{same_row, band-known, holds-band}
 use Rattle.compare.specs.declared.bands.Band.{Band}
 use Rattle.compare.specs.declared.bands.Comparison.TheVariants.{Of}
-use Rattle.vertical_compare.specs.Alike.{band-alike}
+use Rattle.vertical_planes.specs.Alike.{band-alike}
 use Rattle.vertical_compare.specs.Lanes.{lane-fits}
-use Rattle.vertical_compare.specs.Standing.{band_compared}
-use Rattle.vertical_compare.proofs.groups.compare.Kinds as compare·kinds
-use Rattle.vertical_compare.proofs.groups.compare.Reads as compare·reads
-use Rattle.vertical_compare.proofs.four.compare_four.Kinds as compare-four·kinds
-use Rattle.vertical_compare.proofs.four.compare_four.Reads as compare-four·reads
+use Rattle.vertical_planes.specs.Standing.{band_compared}
+use Rattle.vertical_planes.proofs.groups.compare.Kinds as compare·kinds
+use Rattle.vertical_planes.proofs.groups.compare.Reads as compare·reads
+use Rattle.vertical_planes.proofs.four.compare_four.Kinds as compare-four·kinds
+use Rattle.vertical_planes.proofs.four.compare_four.Reads as compare-four·reads
 use Rattle.promises.specs.Calls.{Every}
 
 -- ---- an operator's constants are the ends of its band that count
