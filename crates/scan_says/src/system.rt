@@ -1,9 +1,12 @@
-// What the program has of the system: the words typed, and the streams it writes.
+// What the program has of the system: the words typed, files by their names, and the streams it writes.
 ghost use Rattle.std.specs.Prelude.{◌≤◌};
 ghost use Rattle.io.specs.Counts.{IsPrefixLen};
 
 use lines::streams::Streams;
 use std::env::{Env, FillError};
+use std::fs::{Files, OpenOptions};
+use std::io::{Error, Result};
+use std::str::from_utf8;
 
 #[derive(Drop)]
 pub struct System<R> {
@@ -31,6 +34,19 @@ impl<R: Env> System<R> {
         match self.rt.arg(at, places) {
             Ok(n) => n,
             Err(_) => 0,
+        }
+    }
+}
+
+// What the system says of bytes that are no text.
+const NO_TEXT: i32 = 84;
+
+impl<R: Files> System<R> {
+    // Opens a file. A name has to be text, as the library asks.
+    pub fn open(&self, how: &OpenOptions, name: &[u8]) -> Result<R::File> {
+        match from_utf8(name) {
+            Ok(path) => how.open(&self.rt, path),
+            Err(_) => Err(Error::from_raw_os_error(NO_TEXT)),
         }
     }
 }
