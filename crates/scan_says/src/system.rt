@@ -4,7 +4,7 @@ ghost use Rattle.io.specs.Counts.{IsPrefixLen};
 
 use lines::streams::Streams;
 use std::env::{Env, FillError};
-use std::fs::{Files, OpenOptions};
+use std::fs::{Files, Metadata, OpenOptions, metadata};
 use std::io::{Error, Result};
 use std::str::from_utf8;
 
@@ -41,12 +41,17 @@ impl<R: Env> System<R> {
 // What the system says of bytes that are no text.
 const NO_TEXT: i32 = 84;
 
+// A file's name, which has to be text, as the library asks.
+fn path(name: &[u8]) -> Result<&str> {
+    from_utf8(name).map_err(|_| Error::from_raw_os_error(NO_TEXT))
+}
+
 impl<R: Files> System<R> {
-    // Opens a file. A name has to be text, as the library asks.
     pub fn open(&self, how: &OpenOptions, name: &[u8]) -> Result<R::File> {
-        match from_utf8(name) {
-            Ok(path) => how.open(&self.rt, path),
-            Err(_) => Err(Error::from_raw_os_error(NO_TEXT)),
-        }
+        how.open(&self.rt, path(name)?)
+    }
+
+    pub fn metadata(&self, name: &[u8]) -> Result<Metadata> {
+        metadata(&self.rt, path(name)?)
     }
 }
