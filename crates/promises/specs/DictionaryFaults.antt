@@ -3,7 +3,7 @@
 use Rattle.std.specs.Prelude.{◌≡◌, refl, true, false, not, cond, ◌||◌, List, [], ◌∷◌, ◌↔◌, T, leb, ltb, ℤ, length, ◌<ℤ◌}
 use Rattle.std.proofs.Common.{ap, ap₂, ◌∙◌, arith}
 use Rattle.std.proofs.Math.Bool.{Bool}
-use Rattle.std.proofs.Math.Logic.{Iff·and, Iff·trans}
+use Rattle.std.proofs.Math.Logic.Iff
 use Prim.Native.Nat.{ℕ, suc, ◌-◌, ◌%◌, ◌≤◌, ◌<◌}
 use Rattle.std.specs.Int.Signed.{le_z, lt_z, lt_z_yes}
 use borrow.Author.Tests.{ltb-false, le-ltb, leb-false, lt-leb}
@@ -48,7 +48,7 @@ pub record Exact (page dict : List ℕ) (n : ℕ) : Type 0 where
 
 -- neither of two tests holds
 neither-holds : {P Q : Type 0} (s t : Bool) → (s ≡ false ↔ P) → (t ≡ false ↔ Q) → s || t ≡ false ↔ P and Q
-neither-holds s t p q = Iff·trans (Tests.neither s t, λ e. ap₂ ◌||◌ e.0 e.1) (Iff·and p q)
+neither-holds s t p q = Iff.trans (Tests.neither s t, λ e. ap₂ ◌||◌ e.0 e.1) (Iff.and p q)
 
 -- not at most is above
 above : (x y : ℤ) → le_z y x ≡ false ↔ x <ℤ y
@@ -71,8 +71,8 @@ module _ (dict : List ℕ) where
   pub dictionary-exact : dictionary_fault dict ≡ 0 ↔ Ascending dict
   unfolding dictionary_fault
   dictionary-exact =
-      Iff·trans (no_fault _ 14 (λ e. omega arith))
-      (Iff·trans
+      Iff.trans (no_fault _ 14 (λ e. omega arith))
+      (Iff.trans
       (neither-holds _ _
       (neither-holds _ _ (no_rest (length dict % 4)) (ltb-false 65536 (length dict), le-ltb 65536 (length dict)))
       ordered) (
@@ -115,7 +115,7 @@ pub below-exact : (page dict : List ℕ) (n : ℕ)
 unfolding index_fault
 below-exact page dict n =
     let test : ℕ → Bool = λ i. leb (count dict) (index_at n page i) in
-    Iff·trans (no_fault _ 15 (λ e. omega arith)) (
+    Iff.trans (no_fault _ 15 (λ e. omega arith)) (
       λ e i h. leb-false (count dict) (index_at n page i) (below_none n test e i h),
       λ h. none_below n test (λ i l. lt-leb (count dict) (index_at n page i) (h i l)),
     )
@@ -124,7 +124,7 @@ below-exact page dict n =
 pub column-exact : (page dict : List ℕ) (n : ℕ) → column_fault dict n page ≡ 0 ↔ Exact page dict n
 unfolding column_fault
 column-exact page dict n =
-    Iff·trans
+    Iff.trans
     (neither _ _ (dictionary-exact dict) (neither _ _ (indexes-exact page n) (below-exact page dict n))) (
       λ e. record { ascending = e.0; cuttable = e.1.0; below = rw (indexes-cut e.1.0) at e.1.1 },
       λ good. (good.ascending, (good.cuttable, rw (indexes-cut good.cuttable) good.below)),

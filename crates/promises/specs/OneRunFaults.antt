@@ -3,7 +3,7 @@
 use Rattle.std.specs.Prelude.{◌≡◌, Bool, cond, List, ◌↔◌, ℕ, ◌-◌, ◌≤◌, ◌<◌, leb, ltb, length}
 use Rattle.std.proofs.Math.Path.{refl}
 use Rattle.std.proofs.Math.Bool.{true, false}
-use Rattle.std.proofs.Math.Logic.{Iff·trans}
+use Rattle.std.proofs.Math.Logic.Iff
 use Rattle.std.proofs.Common.{arith, leb-false}
 use Rattle.std.proofs.lemmas.Bool.{lt-leb}
 use Rattle.rules.specs.Answer.{faulty, ◌then◌, limit_fault}
@@ -44,7 +44,7 @@ module _ (w n covered : ℕ) (page : List ℕ) (at : ℕ) where
       neither _ _ (limits-kept w n)
       (neither _ _ (not-below (length page) at 5 (λ e. omega arith))
       (neither _ _
-      (Iff·trans (no_fault (leb n covered) 11 (λ e. omega arith)) (leb-false n covered, lt-leb n covered))
+      (Iff.trans (no_fault (leb n covered) 11 (λ e. omega arith)) (leb-false n covered, lt-leb n covered))
       (run-exact w (n - covered) page at)))
 
 -- ---- never 6

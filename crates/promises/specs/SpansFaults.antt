@@ -1,6 +1,6 @@
 -- When the two operations of spans find no fault, in plain conditions.
 use Rattle.std.specs.Prelude.{◌≡◌, not, List, ◌↔◌, ℕ, ◌%◌, ◌≤◌, ltb, eqb, length}
-use Rattle.std.proofs.Math.Logic.{Iff·trans}
+use Rattle.std.proofs.Math.Logic.Iff
 use Rattle.std.proofs.Common.{arith}
 use Rattle.rules.specs.Bits.{ceil}
 use Rattle.rules.specs.Answer.{faulty, ◌then◌, count_fault, room_fault}
@@ -10,7 +10,7 @@ use Rattle.promises.specs.Pairs.{Ascends, placed-exact}
 
 -- 5 of a list
 pub even-exact : (list : List ℕ) → faulty (not (eqb (length list % 2) 0)) 5 ≡ 0 ↔ length list % 2 ≡ 0
-even-exact list = Iff·trans (no_fault _ 5 (λ e. omega arith)) (no_rest (length list % 2))
+even-exact list = Iff.trans (no_fault _ 5 (λ e. omega arith)) (no_rest (length list % 2))
 
 -- 2, 5, 4
 pub from_good : (bits : List ℕ) (n places : ℕ)
@@ -22,7 +22,7 @@ from_good bits n places =
 
 -- 18
 list_exact : (n : ℕ) (list : List ℕ) → faulty (misplaced n 0 list) 18 ≡ 0 ↔ Ascends n list
-list_exact n list = Iff·trans (no_fault (misplaced n 0 list) 18 (λ e. omega arith)) (placed-exact n list)
+list_exact n list = Iff.trans (no_fault (misplaced n 0 list) 18 (λ e. omega arith)) (placed-exact n list)
 
 -- 2, 5, 4, 18
 pub to_good : (list : List ℕ) (n places : ℕ)

@@ -1,7 +1,3 @@
-// Groups of 64 entries in bit planes, compared with both ends of a band at once.
-#![tactic(auto)]
-
+// One group of 64 entries in bit planes, compared with both ends of a band at once.
 pub mod ends;
-pub mod four;
 pub mod groups;
-pub mod lanes;

@@ -1,7 +1,4 @@
 // Bit planes: scan.
-#![tactic(auto)]
-
 pub mod groups;
 pub mod judging;
 pub mod scanning;
-pub mod selecting;

@@ -1,5 +1,5 @@
 -- `packed_kernels::each::eight` meets its contract: eight digits, each with its weight.
-use Rattle.std.proofs.Common.{◌+◌, ◌*◌, arith, rules}
+use Rattle.std.proofs.Common.{◌+◌, ◌*◌, arith}
 use Rattle.rules.specs.Bits.{field}
 use Rattle.rules.specs.Bits.Order.{low_first}
 use Rattle.compare.specs.Range.{inside}

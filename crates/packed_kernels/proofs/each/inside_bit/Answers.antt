@@ -1,6 +1,6 @@
 -- `packed_kernels::each::inside_bit` meets its contract: a difference that wraps is at most span just inside the
 -- range.
-use Rattle.std.proofs.Common.{◌≡◌, ◌+◌, leb, ap, ◌∙◌, arith, rules}
+use Rattle.std.proofs.Common.{◌≡◌, ◌+◌, leb, ap, ◌∙◌, arith}
 use Rattle.rules.specs.Bits.{flag}
 use Rattle.words.specs.Bits.{flag_lt, byte_flag}
 use Rattle.compare.specs.Range.{inside}

@@ -1,5 +1,5 @@
 -- `packed_kernels::eights::eight_in` meets its contract: four pairs of digits become two fours, and these a byte.
-use Rattle.std.proofs.Common.{◌≡◌, ℕ, ◌+◌, ◌*◌, ◌/◌, ◌%◌, ◌^◌, ◌<◌, arith, rules}
+use Rattle.std.proofs.Common.{◌≡◌, ℕ, ◌+◌, ◌*◌, ◌/◌, ◌%◌, ◌^◌, ◌<◌, arith}
 use lib.Bits.{bit_and}
 use Rattle.rules.specs.Bits.{word}
 use Rattle.words.specs.Bits.{word_lt}

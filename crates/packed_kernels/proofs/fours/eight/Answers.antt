@@ -1,16 +1,15 @@
 -- `packed_kernels::fours::eight` meets its contract: four entries in a window, and four in the next.
-use Rattle.std.proofs.Common.{ℕ, ◌+◌, ◌*◌, ◌/◌, ◌%◌, ◌^◌, sym, ap, ◌∙◌, ap₂, div-one, arith, rules}
+use Rattle.std.proofs.Common.{ℕ, ◌+◌, ◌*◌, ◌/◌, ◌%◌, ◌^◌, sym, ap, ◌∙◌, ap₂, div-one, arith}
 use Rattle.words.specs.Joined.{Small}
 use Rattle.packed_kernels.specs.Windows.{window_tests, two_fours}
 use Rattle.packed_kernels.proofs.fours.eight.Goals as goal
 
 pub returns : goal.returns
 returns c =
-    let s = c in
-    let a = s.args in
+    let a = c.args in
     let page = a.page.now in
     let o = 4 * a.w % 8 in
-    let all : Small 8 page = λ k. (s.shared_slice_known-1.given k).fits in
+    let all : Small 8 page = λ k. (c.type_inv.page k).fits in
     ap₂ (λ (p q : ℕ). p + q * 16)
     (c.four_in.ensures.told
     ∙ window_tests page 4 a.at 0 a.w a.low (a.low + a.span) c.load8-x.result

@@ -1,5 +1,5 @@
 -- `packed_kernels::fours::four_in` meets its contract: two pairs of digits side by side.
-use Rattle.std.proofs.Common.{arith, rules}
+use Rattle.std.proofs.Common.{arith}
 use Rattle.packed_kernels.specs.SlotTests.{tested}
 use Rattle.packed_kernels.specs.Folded.{four_fits, four_tests}
 use Rattle.packed_kernels.proofs.fours.four_in.Goals as goal
@@ -14,5 +14,8 @@ overflow_add-result c =
 
 pub returns : goal.returns
 returns c =
-    let a = c.args in record { told = four_tests a.w (tested a.low a.high a.w a.x) c.pair_tests-y.result (omega arith)
-          c.pair_tests-y.ensures; small = omega arith }
+    let a = c.args in record {
+      told = four_tests a.w (tested a.low a.high a.w a.x) c.pair_tests-y.result (omega arith)
+          c.pair_tests-y.ensures;
+      small = omega arith;
+    }

@@ -1,6 +1,6 @@
 -- `packed_kernels::fours::select_fours` meets its contract. The loop's invariant: the bytes of the groups passed
-use Rattle.std.proofs.Common.{◌-◌, arith}
-use Rattle.packed_kernels.specs.GroupByGroup.{group_within, Passed, none_passed, next-passed, all_passed}
+use Rattle.std.proofs.Common.{◌-◌}
+use Rattle.packed_kernels.specs.GroupByGroup.{Passed}
 use Rattle.packed_kernels.proofs.fours.select_fours.Given as goal
 
 abbrev pub invariant-loop-g : goal.invariant-loop-g

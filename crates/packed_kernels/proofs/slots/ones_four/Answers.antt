@@ -1,5 +1,5 @@
 -- `packed_kernels::slots::ones_four` meets its contract: two fields, and two more of twice the size.
-use Rattle.std.proofs.Common.{◌≡◌, ℕ, ◌*◌, ◌∙◌, ap₂, arith, rules}
+use Rattle.std.proofs.Common.{◌≡◌, ℕ, ◌*◌, ◌∙◌, ap₂, arith}
 use Rattle.packed_kernels.specs.Slots.{slots}
 use Rattle.packed_kernels.specs.Slots.{ones_four, ones-fit}
 use Rattle.packed_kernels.proofs.slots.ones_four.Goals as goal

@@ -1,5 +1,5 @@
 -- `packed_kernels::slots::ones_two` meets its contract: 1 and 2 ^ d.
-use Rattle.std.proofs.Common.{ℕ, ◌+◌, ap, ◌∙◌, arith, pow_mono, rules}
+use Rattle.std.proofs.Common.{ℕ, ◌+◌, ap, ◌∙◌, arith, pow_mono}
 use Rattle.packed_kernels.specs.Slots.{ones_two}
 use Rattle.packed_kernels.proofs.slots.ones_two.Goals as goal
 

@@ -1,5 +1,5 @@
 -- `packed_kernels::slots::pow` meets its contract: nothing is shifted out.
-use Rattle.std.proofs.Common.{arith, rules}
+use Rattle.std.proofs.Common.{arith}
 use Rattle.words.specs.Bits.{one_shl}
 use Rattle.packed_kernels.proofs.slots.pow.Goals as goal
 

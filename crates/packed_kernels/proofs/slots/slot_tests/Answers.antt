@@ -1,15 +1,14 @@
 -- `packed_kernels::slots::slot_tests` meets its contract: no slot reaches the next, so that each is tested by itself.
-use Rattle.std.proofs.Common.{arith, pow_pos, pow_mono, rules}
+use Rattle.std.proofs.Common.{arith, pow_pos, pow_mono}
 use Rattle.packed_kernels.specs.SlotTests.{every-fits, sum_fits, rest-fits, all_tested}
 use Rattle.packed_kernels.proofs.slots.slot_tests.Goals as goal
 
 pub overflow_mul-ge : goal.overflow_mul-ge
 overflow_mul-ge c =
-    let s = c in
-    let a = s.args in
+    let a = c.args in
     record {
-      fits = rw (c.least.ensures, c.pow-p.ensures, s.requires.3)
-          (every-fits a.n a.d a.w _ s.requires.1 s.requires.2 (omega (arith, pow_pos a.w)));
+      fits = rw (c.least.ensures, c.pow-p.ensures, c.requires.3)
+          (every-fits a.n a.d a.w _ c.requires.1 c.requires.2 (omega (arith, pow_pos a.w)));
     }
 
 pub overflow_sub-p : goal.overflow_sub-p
@@ -20,32 +19,28 @@ overflow_add-le c = omega (arith, pow_mono {i = c.args.w} {j = 32} (omega arith)
 
 pub overflow_mul-le : goal.overflow_mul-le
 overflow_mul-le c =
-    let s = c in
-    let a = s.args in
+    let a = c.args in
     record {
-      fits = rw (c.least-2.ensures, c.pow-p.ensures, s.requires.3)
-          (every-fits a.n a.d a.w _ s.requires.1 s.requires.2 (omega (arith, pow_pos a.w)));
+      fits = rw (c.least-2.ensures, c.pow-p.ensures, c.requires.3)
+          (every-fits a.n a.d a.w _ c.requires.1 c.requires.2 (omega (arith, pow_pos a.w)));
     }
 
 pub overflow_add-result : goal.overflow_add-result
 overflow_add-result c =
-    let s = c in
-    let a = s.args in
+    let a = c.args in
     record {
-      fits = rw (c.least.ensures, c.pow-p.ensures, s.requires.3)
-          (sum_fits a.n a.d a.w a.low a.high a.a s.requires.1 s.requires.4 s.requires.2);
+      fits = rw (c.least.ensures, c.pow-p.ensures, c.requires.3)
+          (sum_fits a.n a.d a.w a.low a.high a.a c.requires.1 c.requires.4 c.requires.2);
     }
 
 pub overflow_sub-result : goal.overflow_sub-result
 overflow_sub-result c =
-    let s = c in
-    let a = s.args in
-    rw (c.least-2.ensures, c.pow-p.ensures, s.requires.3)
-    (rest-fits a.n a.d a.w a.low a.high a.a s.requires.1 s.requires.4)
+    let a = c.args in
+    rw (c.least-2.ensures, c.pow-p.ensures, c.requires.3)
+    (rest-fits a.n a.d a.w a.low a.high a.a c.requires.1 c.requires.4)
 
 pub returns : goal.returns
 returns c =
-    let s = c in
-    let a = s.args in
-    rw (c.least-2.ensures, c.least.ensures, c.pow-p.ensures, s.requires.3)
-    (all_tested a.n a.d a.w a.low a.high a.a s.requires.1 s.requires.4)
+    let a = c.args in
+    rw (c.least-2.ensures, c.least.ensures, c.pow-p.ensures, c.requires.3)
+    (all_tested a.n a.d a.w a.low a.high a.a c.requires.1 c.requires.4)

@@ -1,5 +1,5 @@
 -- `packed_kernels::twos::apart` meets its contract: what stands above the first number is there twice.
-use Rattle.std.proofs.Common.{◌*◌, ◌%◌, ◌<◌, mod-lt, arith, pow_pos, pow_mono, rules}
+use Rattle.std.proofs.Common.{◌*◌, ◌%◌, ◌<◌, mod-lt, arith, pow_pos, pow_mono}
 use native.Mathlib.Nat.{mod-le}
 use Rattle.packed_kernels.specs.SlotTests.{apart}
 use Rattle.packed_kernels.proofs.twos.apart.Goals as goal

@@ -1,5 +1,5 @@
 -- `packed_kernels::twos::eight` meets its contract: four times two tests, one in each slot, brought side by side.
-use Rattle.std.proofs.Common.{◌≡◌, ℕ, ◌+◌, ◌*◌, Bool, ◌∙◌, ap₂, arith, rules}
+use Rattle.std.proofs.Common.{◌≡◌, ℕ, ◌+◌, ◌*◌, Bool, ◌∙◌, ap₂, arith}
 use Rattle.rules.specs.Bits.{flag, field}
 use Rattle.rules.specs.Bits.Order.{low_first}
 use Rattle.compare.specs.Range.{inside}

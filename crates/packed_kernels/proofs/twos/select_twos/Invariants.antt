@@ -1,6 +1,6 @@
 -- `packed_kernels::twos::select_twos` meets its contract. The loop's invariant: the bytes of the groups passed are
-use Rattle.std.proofs.Common.{◌-◌, arith}
-use Rattle.packed_kernels.specs.GroupByGroup.{group_within, Passed, none_passed, next-passed, all_passed}
+use Rattle.std.proofs.Common.{◌-◌}
+use Rattle.packed_kernels.specs.GroupByGroup.{Passed}
 use Rattle.packed_kernels.proofs.twos.select_twos.Given as goal
 
 abbrev pub invariant-loop-g : goal.invariant-loop-g

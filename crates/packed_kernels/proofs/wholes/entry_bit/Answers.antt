@@ -1,5 +1,5 @@
 -- `packed_kernels::wholes::entry_bit` meets its contract: four bytes are the entry, which is marked.
-use Rattle.std.proofs.Common.{ℕ, ◌+◌, ap, ◌∙◌, arith, rules}
+use Rattle.std.proofs.Common.{ℕ, ◌+◌, ap, ◌∙◌, arith}
 use Rattle.rules.specs.Bits.{flag}
 use Rattle.compare.specs.Range.{inside}
 use Rattle.packed_kernels.specs.Windows.{whole-entry}
@@ -7,8 +7,11 @@ use Rattle.packed_kernels.proofs.wholes.entry_bit.Goals as goal
 
 pub returns : goal.returns
 returns c =
-    let s = c in
-    let a = s.args in
+    let a = c.args in
     let entry =
     whole-entry a.page.now a.at a.k c.load4.result
-    (λ k. (s.shared_slice_known-1.given k).fits) (omega arith) c.load4.ensures in record { told = c.inside_bit.ensures.told ∙ ap (λ (x : ℕ). flag (inside a.low (a.low + a.span) x)) entry; small = c.inside_bit.ensures.small }
+    (λ k. (c.type_inv.page k).fits) (omega arith) c.load4.ensures in
+    record {
+      told = c.inside_bit.ensures.told ∙ ap (λ (x : ℕ). flag (inside a.low (a.low + a.span) x)) entry;
+      small = c.inside_bit.ensures.small;
+    }

@@ -1,7 +1,7 @@
 -- `packed_kernels::wholes::select_wholes` meets its contract. The loop's invariant: the bytes of the groups passed
 -- are in place.
-use Rattle.std.proofs.Common.{◌-◌, arith}
-use Rattle.packed_kernels.specs.GroupByGroup.{group_within, Passed, none_passed, next-passed, all_passed}
+use Rattle.std.proofs.Common.{arith}
+use Rattle.packed_kernels.specs.GroupByGroup.{group_within, none_passed, next-passed, all_passed}
 use Rattle.packed_kernels.proofs.wholes.select_wholes.Goals as goal
 
 pub loop-g-init : goal.loop-g-init

@@ -1,0 +1,28 @@
+-- `packed_select::front` meets its contract: the windows of the groups it compares end within the page.
+use mathlib.Core.Path.{ap}
+use Prim.Native.Nat.{◌*◌}
+use native.Mathlib.Omega.{arith}
+use Rattle.packed_kernels.specs.Selected.{ranging}
+use Rattle.packed_select.specs.TwoPieces.{none-front}
+use Rattle.packed_select.proofs.front.Goals as goal
+
+pub returns-then-w-eq0 : goal.returns-then-w-eq0
+returns-then-w-eq0 c =
+    let a = c.args in
+    let none =
+    none-front a.bitmap.now a.page.now a.w (ranging a.low a.span a.flip) a.q
+    (omega (arith, ap (λ w. a.q * w) c.if-w-eq0.true))
+    in
+    record { within = none.0; written = none.1 }
+
+pub returns-then-page-lt8 : goal.returns-then-page-lt8
+returns-then-page-lt8 c =
+    let a = c.args in
+    let none = none-front a.bitmap.now a.page.now a.w (ranging a.low a.span a.flip) a.q (omega arith) in
+    record { within = none.0; written = none.1 }
+
+pub select_groups-requires : goal.select_groups-requires
+select_groups-requires c = omega (arith, c.groups_within-m.ensures)
+
+pub returns : goal.returns
+returns c = record { within = omega (arith, c.groups_within-m.ensures); written = cc }

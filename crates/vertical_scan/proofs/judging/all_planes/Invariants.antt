@@ -1,0 +1,15 @@
+-- `vertical_scan::judging::all_planes` meets its contract. The loop's invariant: the words passed are put over each
+use mathlib.Core.Path.{◌≡◌, refl, sym, ap, ◌∙◌}
+use Prim.Native.Nat.{ℕ, ◌+◌, ◌-◌, ◌≤◌}
+use native.Mathlib.Numerals.{add-one}
+use native.Mathlib.Omega.{arith}
+use lib.Bits.{bit_or}
+use lib.ListN.{get_or}
+use Rattle.vertical_scan.specs.UnusedLanes.{or_to}
+use Rattle.vertical_scan.proofs.judging.all_planes.Given as goal
+
+abbrev pub invariant-loop-k : goal.invariant-loop-k
+invariant-loop-k l = (l.k ≤ l.w) × (l.all ≡ or_to l.words l.at l.k)
+
+abbrev pub decreases-loop-k : goal.decreases-loop-k
+decreases-loop-k l = l.w - l.k
