@@ -1,23 +1,20 @@
 -- `dictionary_indexes::large::runs_fault` meets its contract. The loop's invariant: the code is what judging on
 -- from here gives, and what was found with what going on finds is what the pass finds. Each run has an entry, so
 -- fewer are left with each turn.
-use mathlib.Core.Path.{◌≡◌, refl, sym, ◌∙◌}
+use mathlib.Core.Path.{refl, sym, ◌∙◌}
 use mathlib.Core.Bool.{false}
-use Prim.Native.Nat.{◌+◌, ◌-◌, ◌≤◌}
+use Prim.Native.Nat.{◌-◌}
 use native.Mathlib.Omega.{arith}
 use lib.Dec.{leb}
-use lib.ListN.{length}
 use borrow.Author.Rules.{rules}
 use borrow.Author.Tests.{lt-ltb, le-ltb}
-use Rattle.rules.specs.Runs.{run_at}
-use Rattle.rules.specs.declared.Run.TheVariants.{Repeated, Packed}
 use Rattle.answers.specs.Laws.{then_found}
 use Rattle.runs_read.specs.Parts.{body-fits}
 use Rattle.runs_read.specs.RunRead.{ran_repeated, ran_packed}
 use Rattle.runs_read.specs.Walks.{on_end}
 use Rattle.runs_read.specs.TwoPasses.{judge}
-use Rattle.runs_walk.specs.CountedTurns.{onward, begins, on_repeated, on_packed, ends}
-use Rattle.dictionary_indexes.specs.SomeEntry.{seeks, sought, sought-pass, seeks-same, seeks-body, judging}
+use Rattle.runs_walk.specs.CountedTurns.{begins, on_repeated, on_packed, ends}
+use Rattle.dictionary_indexes.specs.SomeEntry.{seeks, sought-pass, seeks-same, seeks-body}
 use Rattle.dictionary_indexes.specs.SomeEntry.{judging-begins, judging-repeated, judging-packed}
 use Rattle.dictionary_indexes.specs.SomeEntry.{judging-refused, then_sought}
 use Rattle.dictionary_indexes.proofs.large.runs_fault.Goals as goal
@@ -61,8 +58,7 @@ overflow_mul-groups c =
 pub some_packed-here-requires : goal.some_packed-here-requires
 some_packed-here-requires c =
     let packed-run = sym c.run_at-run.ensures ∙ c.in-Packed.is in
-    let ran = ran_packed _ _ _ _ packed-run in
-    (
+    let ran = ran_packed _ _ _ _ packed-run in (
       search rules,
       omega arith,
       search rules,

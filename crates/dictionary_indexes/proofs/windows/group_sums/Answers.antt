@@ -22,9 +22,13 @@ pairs n k w ones all is = is ∙ ap (λ (n : ℕ). slots n (2 * w) (λ i. 1)) al
 pub sums-requires : goal.sums-requires
 sums-requires c =
     let a = c.args in
-    let all = c.if-n-eq4.true in
-    (search rules, search rules, four_pairs a.n a.w all c.requires.2, pairs a.n 4 a.w a.ones all c.requires.3,
-    c.requires.4)
+    let all = c.if-n-eq4.true in (
+      search rules,
+      search rules,
+      four_pairs a.n a.w all c.requires.2,
+      pairs a.n 4 a.w a.ones all c.requires.3,
+      c.requires.4,
+    )
 
 pub returns-then-n-eq4 : goal.returns-then-n-eq4
 returns-then-n-eq4 c =

@@ -3,7 +3,6 @@
 use Prim.Native.Nat.{◌*◌, ◌/◌, ◌^◌}
 use native.Mathlib.Omega.{arith}
 use lib.Pow.{pow_pos}
-use borrow.Author.Rules.{rules}
 use Rattle.packed_kernels.specs.SlotTests.{every-fits}
 use Rattle.dictionary_indexes.specs.IndexWindows.{sum_fits, sums_large}
 use Rattle.dictionary_indexes.proofs.windows.sums.Goals as goal
