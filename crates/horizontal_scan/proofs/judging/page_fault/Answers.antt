@@ -1,10 +1,11 @@
 -- `horizontal_scan::judging::page_fault` meets its contract: each test is one of the listed faults.
+use Rattle.std.proofs.Common.{length}
 use Prim.Native.Nat.{◌<◌, ◌≤◌}
 use native.Mathlib.Omega.{arith}
 use borrow.Author.Tests.{lt-ltb, le-ltb}
 use Rattle.rules.specs.Bits.Order.{low_first}
 use Rattle.rules.specs.Answer.{◌then◌}
-use Rattle.rules.specs.Horizontal.{page_fault, unused}
+use Rattle.rules.specs.Horizontal.{page_bytes, page_fault, unused}
 use Rattle.horizontal_scan.specs.GoodPage.{bits_le}
 use Rattle.horizontal_scan.proofs.judging.page_fault.Goals as goal
 
@@ -16,7 +17,9 @@ overflow_add-bytes c = let a = c.args in omega (arith, bits_le a.width a.n (omeg
 
 pub returns-then-page-bytes : goal.returns-then-page-bytes
 unfolding page_fault ◌then◌
-returns-then-page-bytes c = rw (lt-ltb _ _ c.if-page-bytes.true)
+returns-then-page-bytes c =
+    let a = c.args in
+    rw (lt-ltb (length a.page.now) (page_bytes a.width a.n) (omega arith))
 
 pub returns-then-bytes-page : goal.returns-then-bytes-page
 unfolding page_fault ◌then◌
@@ -31,7 +34,7 @@ unfolding page_fault ◌then◌
 returns-then-entry_any-gt0 c =
     let a = c.args in
     let some : 0 < unused low_first a.page.now a.width a.n =
-    rw c.entry_any.ensures at c.if-entry_any-gt0.true in
+    rw (← c.entry_any.ensures) (omega arith) in
     rw (le-ltb _ _ c.if-page-bytes.false, le-ltb _ _ c.if-bytes-page.false, lt-ltb _ _ some)
 
 pub returns : goal.returns
@@ -39,5 +42,5 @@ unfolding page_fault ◌then◌
 returns c =
     let a = c.args in
     let none : unused low_first a.page.now a.width a.n ≤ 0 =
-    rw c.entry_any.ensures at c.if-entry_any-gt0.false in
+    rw (← c.entry_any.ensures) (omega arith) in
     rw (le-ltb _ _ c.if-page-bytes.false, le-ltb _ _ c.if-bytes-page.false, le-ltb _ _ none)

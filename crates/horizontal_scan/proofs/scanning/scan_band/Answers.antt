@@ -31,15 +31,15 @@ returns-then-code-ne0 c =
     let a = c.args in
     let found : c.first_fault-code.result
     ≡ (room_fault (length a.bitmap.now) (ceil a.n 8) then page_fault low_first a.page.now a.width a.n) = cc in
-    refused_is _ _ _ _ _ _ c.refused.ensures (sym found) c.if-code-ne0.true
+    refused_is _ _ _ _ _ _ c.refused.ensures (sym found) (λ e. c.if-code-ne0.true (omega arith))
 
 pub select-requires : goal.select-requires
 select-requires c =
     let a = c.args in
     let found : c.first_fault-code.result
     ≡ (room_fault (length a.bitmap.now) (ceil a.n 8) then page_fault low_first a.page.now a.width a.n) = cc in
-    let g = good (length a.bitmap.now) a.width a.n a.page.now (sym found ∙ c.if-code-ne0.false) in
-    (c.requires.0, c.requires.1, omega arith, omega arith, g.0, rw c.range_of.ensures (range-usable _))
+    let g = good (length a.bitmap.now) a.width a.n a.page.now (sym found ∙ omega arith) in
+    (omega arith, omega arith, omega (arith, g.1), omega (arith, g.1), omega (arith, g.0), rw c.range_of.ensures (range-usable _))
 
 pub counted-requires : goal.counted-requires
 counted-requires c =
@@ -47,7 +47,8 @@ counted-requires c =
     let found : c.first_fault-code.result
     ≡ (room_fault (length a.bitmap.now) (ceil a.n 8) then page_fault low_first a.page.now a.width a.n) = cc in
     let kept : length c.select.new.bitmap ≡ length a.bitmap.now = c.select.auto.bitmap in
-    (c.requires.1, rw kept (good (length a.bitmap.now) a.width a.n a.page.now (sym found ∙ c.if-code-ne0.false)).0)
+    let g = good (length a.bitmap.now) a.width a.n a.page.now (sym found ∙ omega arith) in
+    (omega arith, omega (arith, kept, g.0))
 
 pub returns : goal.returns
 returns c =
@@ -57,4 +58,4 @@ returns c =
     let bits = c.select.ensures
     ∙ ap (λ r. put a.bitmap.now 0 (selected a.page.now a.n a.width (ranged r))) c.range_of.ensures
     ∙ ap (put a.bitmap.now 0) (selected-banded a.page.now a.n a.width a.band c.requires.0) in
-    scanned_is _ a.n _ _ _ _ (sym found ∙ c.if-code-ne0.false) bits c.counted.ensures
+    scanned_is _ a.n _ _ _ _ (sym found ∙ omega arith) bits c.counted.ensures
