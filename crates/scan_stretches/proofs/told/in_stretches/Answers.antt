@@ -2,27 +2,18 @@
 use mathlib.Core.Bool.{cond}
 use mathlib.Core.List.{[], ◌++◌}
 use lib.Dec.{eqb}
-use borrow.Author.Rules.{rules}
 use Rattle.lines.specs.Text.{ascii, laid, decimal}
 use Rattle.lines.specs.Laws.{laid-laid}
 use Rattle.scan_day.specs.Clock.{laid-three}
 use Rattle.scan_stretches.specs.Told.{gaps_closed, in_stretches}
-use Rattle.scan_stretches.proofs.told.in_stretches.Statement.{statement}
-use Rattle.scan_stretches.proofs.told.in_stretches.Tie as tie
+use Rattle.scan_stretches.proofs.told.in_stretches.Goals as goal
 
-returns : tie.Need-returns
+pub returns : goal.returns
 unfolding in_stretches ascii
 returns c =
-    let a = c.before.before.before.before.before.before.before.before.args in
+    let a = c.args in
     let word = cond (eqb a.count 1) (ascii " stretch") (ascii " stretches") in
     cc (
       laid-three (laid [] (ascii ", in ")) (decimal a.count) word (gaps_closed a.gap),
       laid-laid [] (ascii ", in ") (decimal a.count ++ (word ++ gaps_closed a.gap)),
     )
-
-pub in-stretches-spec : {M : Type 1} → statement M
-in-stretches-spec =
-    tie.close
-    (tie.spec
-    (λ c κs. search rules) (λ c. search rules) (λ c κs. search rules) (λ c κs. search rules)
-    (λ c. search rules) (λ c. search rules) (λ c κs. search rules) (λ c κs. search rules) returns)
