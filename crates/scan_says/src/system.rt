@@ -1,9 +1,12 @@
-// What the program has of the system: the words typed, and the streams it writes.
+// What the program has of the system: the words typed, files by their names, and the streams it writes.
 ghost use Rattle.std.specs.Prelude.{◌≤◌};
 ghost use Rattle.io.specs.Counts.{IsPrefixLen};
 
 use lines::streams::Streams;
 use std::env::{Env, FillError};
+use std::fs::{Files, Metadata, OpenOptions, metadata};
+use std::io::{Error, Result};
+use std::str::from_utf8;
 
 #[derive(Drop)]
 pub struct System<R> {
@@ -32,5 +35,23 @@ impl<R: Env> System<R> {
             Ok(n) => n,
             Err(_) => 0,
         }
+    }
+}
+
+// What the system says of bytes that are no text.
+const NO_TEXT: i32 = 84;
+
+// A file's name, which has to be text, as the library asks.
+fn path(name: &[u8]) -> Result<&str> {
+    from_utf8(name).map_err(|_| Error::from_raw_os_error(NO_TEXT))
+}
+
+impl<R: Files> System<R> {
+    pub fn open(&self, how: &OpenOptions, name: &[u8]) -> Result<R::File> {
+        how.open(&self.rt, path(name)?)
+    }
+
+    pub fn metadata(&self, name: &[u8]) -> Result<Metadata> {
+        metadata(&self.rt, path(name)?)
     }
 }

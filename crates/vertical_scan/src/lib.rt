@@ -1,4 +1,6 @@
 // Bit planes: scan.
+#![tactic(auto)]
+
 pub mod groups;
 pub mod judging;
 pub mod scanning;

@@ -10,7 +10,6 @@ use lib.Signed.{lt_z}
 use mir.Syntax.{w64}
 use mir.Val.{to_z, of_z}
 use mir.ValLaws.{to_z-of_z}
-use borrow.Author.Rules.{rules}
 use Rattle.vertical_compare.specs.BeforeThePlanes.{whole, start_below, start_within, start_above}
 use Rattle.vertical_compare.proofs.ends.start.Goals as goal
 

@@ -1,5 +1,4 @@
 -- `vertical_compare::ends::step` meets its contract: the test of the constant's bit picks the definition's case.
-use borrow.Author.Rules.{rules}
 use borrow.Author.Tests.{eq-eqb, ne_eqb}
 use Rattle.rules.specs.Bits.{bit}
 use Rattle.vertical_compare.specs.Ends.{stepped}

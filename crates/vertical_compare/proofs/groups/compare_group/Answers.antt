@@ -1,14 +1,9 @@
--- `vertical_compare::groups::compare_group` meets its contract. The loop's invariant: both ends are true to the
--- planes taken.
+-- `vertical_compare::groups::compare_group` meets its contract.
 use mathlib.Core.Path.{◌≡◌, ◌∙◌}
-use Prim.Native.Nat.{◌+◌}
 use native.Mathlib.Omega.{arith}
 use lib.ListN.{length}
 use mir.Syntax.{w64}
-use mir.Val.{to_z}
 use mir.ValLaws.{to_z-of_z}
-use borrow.Author.Rules.{rules}
-use Rattle.vertical_compare.specs.Ends.{end_at}
 use Rattle.vertical_compare.specs.BeforeThePlanes.{any_planes}
 use Rattle.vertical_compare.specs.OnePlaneMore.{end-turn}
 use Rattle.vertical_compare.specs.AfterAllPlanes.{ends-between}
@@ -26,7 +21,7 @@ pub loop-i-preserved : goal.loop-i-preserved
 loop-i-preserved c =
     let l = c.loop-i in
     let planes = c.args.planes.now in
-    let small = (c.shared_slice_known-in-loop-i-1.given l.i).fits in (
+    let small = (c.type_inv.planes l.i).fits in (
       omega arith,
       c.step-lower.ensures ∙ end-turn 64 planes l.i l.left _ _ (omega arith) small l.invariant.1,
       c.step-upper.ensures ∙ end-turn 64 planes l.i l.left _ _ (omega arith) small l.invariant.2,

@@ -1,7 +1,6 @@
--- `vertical_scan::judging::all_planes` meets its contract. The loop's invariant: the words passed are put over each
--- other.
+-- `vertical_scan::judging::all_planes` meets its contract.
 use mathlib.Core.Path.{◌≡◌, refl, sym, ap, ◌∙◌}
-use Prim.Native.Nat.{ℕ, ◌+◌, ◌-◌, ◌≤◌}
+use Prim.Native.Nat.{ℕ, ◌+◌}
 use native.Mathlib.Numerals.{add-one}
 use native.Mathlib.Omega.{arith}
 use lib.Bits.{bit_or}
@@ -14,7 +13,7 @@ unfolding or_to
 loop-k-init c = (omega arith, refl)
 
 pub offset_bounds-words-at : goal.offset_bounds-words-at
-offset_bounds-words-at c = omega (arith, c.well-formed)
+offset_bounds-words-at c = omega arith
 
 pub loop-k-preserved : goal.loop-k-preserved
 unfolding or_to

@@ -1,10 +1,6 @@
--- `vertical_scan::judging::all_planes` meets its contract. The loop's invariant: the words passed are put over each
-use mathlib.Core.Path.{◌≡◌, refl, sym, ap, ◌∙◌}
-use Prim.Native.Nat.{ℕ, ◌+◌, ◌-◌, ◌≤◌}
-use native.Mathlib.Numerals.{add-one}
-use native.Mathlib.Omega.{arith}
-use lib.Bits.{bit_or}
-use lib.ListN.{get_or}
+-- The loop's invariant: the words passed are put over each other.
+use mathlib.Core.Path.{◌≡◌}
+use Prim.Native.Nat.{◌-◌, ◌≤◌}
 use Rattle.vertical_scan.specs.UnusedLanes.{or_to}
 use Rattle.vertical_scan.proofs.judging.all_planes.Given as goal
 

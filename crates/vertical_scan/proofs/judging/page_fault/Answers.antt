@@ -1,17 +1,16 @@
 -- `vertical_scan::judging::page_fault` meets its contract: each test is one of the listed faults.
-use mathlib.Core.Path.{◌≡◌, sym, ap, ◌∙◌}
+use mathlib.Core.Path.{sym, ap, ◌∙◌}
+use Rattle.std.specs.Prelude.{◌≢◌}
 use Prim.Native.Nat.{ℕ, ◌+◌, ◌*◌, ◌/◌, ◌%◌, ◌^◌, ◌≤◌}
 use native.Mathlib.Omega.{arith}
 use lib.Dec.{ltb}
-use borrow.Author.Rules.{rules}
 use borrow.Author.Tests.{lt-ltb, le-ltb}
 use Rattle.rules.specs.Answer.{◌then◌}
-use Rattle.rules.specs.Vertical.{page_fault, unused}
+use Rattle.rules.specs.Vertical.{page_fault}
 use Rattle.words.specs.Entries.{place-within}
 use Rattle.vertical_scan.specs.UnusedLanes.{unused-rest, unused-none}
 use Rattle.vertical_scan.specs.GoodColumn.{words_le}
 use Rattle.vertical_scan.proofs.judging.page_fault.Goals as goal
-use Rattle.vertical_scan.proofs.judging.page_fault.Goals.{Else-rest-eq0}
 
 pub overflow_mul-need : goal.overflow_mul-need
 overflow_mul-need c = let a = c.args in omega (arith, words_le a.width a.n (omega arith) (omega arith))
@@ -35,47 +34,39 @@ returns-then-rest-eq0 c =
     )
 
 -- the group that n ends in is the last one
-last : (c : Else-rest-eq0)
-    → let a = c.args in
-    a.n / 64 * a.width + a.width ≤ (a.n + 63) / 64 * a.width
-last c =
-    let a = c.args in
-    place-within a.width (a.n / 64) ((a.n + 63) / 64) (omega arith)
+last : (width n : ℕ) → n % 64 ≢ 0 → n / 64 * width + width ≤ (n + 63) / 64 * width
+last width n rest = place-within width (n / 64) ((n + 63) / 64) (omega arith)
 
 pub overflow_mul-n : goal.overflow_mul-n
 overflow_mul-n c =
     let a = c.args in
-    omega (arith, last c, words_le a.width a.n (omega arith) (omega arith))
+    omega (arith, last a.width a.n (omega arith), words_le a.width a.n (omega arith) (omega arith))
 
 pub all_planes-requires : goal.all_planes-requires
-all_planes-requires c = omega (arith, last c)
+all_planes-requires c = omega (arith, last c.args.width c.args.n (omega arith))
 
 pub returns-then-all_planes-rest-gt0 : goal.returns-then-all_planes-rest-gt0
 unfolding page_fault ◌then◌
 returns-then-all_planes-rest-gt0 c =
-    let rest : let a = c.args in
-    ltb 0 (c.all_planes.result / 2 ^ (a.n % 64)) ≡ unused a.words.now a.width a.n = let s = c in
-    let a = s.args in
+    let a = c.args in
+    let rest =
     ap (λ (x : ℕ). ltb 0 (x / 2 ^ (a.n % 64))) c.all_planes.ensures
-    ∙ unused-rest a.words.now a.width a.n (λ k. (s.shared_slice_known-1.given k).fits) c.if-rest-eq0.false in
-    let s = c in
+    ∙ unused-rest a.words.now a.width a.n (λ k. (c.type_inv.words k).fits) c.if-rest-eq0.false in
     rw (
-      le-ltb _ _ s.if-words-need.false,
-      le-ltb _ _ s.if-need-words.false,
-      sym (rest) ∙ lt-ltb _ _ c.if-all_planes-rest-gt0.true,
+      le-ltb _ _ c.if-words-need.false,
+      le-ltb _ _ c.if-need-words.false,
+      sym rest ∙ lt-ltb _ _ c.if-all_planes-rest-gt0.true,
     )
 
 pub returns : goal.returns
 unfolding page_fault ◌then◌
 returns c =
-    let rest : let a = c.args in
-    ltb 0 (c.all_planes.result / 2 ^ (a.n % 64)) ≡ unused a.words.now a.width a.n = let s = c in
-    let a = s.args in
+    let a = c.args in
+    let rest =
     ap (λ (x : ℕ). ltb 0 (x / 2 ^ (a.n % 64))) c.all_planes.ensures
-    ∙ unused-rest a.words.now a.width a.n (λ k. (s.shared_slice_known-1.given k).fits) c.if-rest-eq0.false in
-    let s = c in
+    ∙ unused-rest a.words.now a.width a.n (λ k. (c.type_inv.words k).fits) c.if-rest-eq0.false in
     rw (
-      le-ltb _ _ s.if-words-need.false,
-      le-ltb _ _ s.if-need-words.false,
-      sym (rest) ∙ le-ltb _ _ c.if-all_planes-rest-gt0.false,
+      le-ltb _ _ c.if-words-need.false,
+      le-ltb _ _ c.if-need-words.false,
+      sym rest ∙ le-ltb _ _ c.if-all_planes-rest-gt0.false,
     )

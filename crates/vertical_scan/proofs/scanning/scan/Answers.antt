@@ -3,7 +3,6 @@ use mathlib.Core.Path.{◌≡◌, sym, ◌∙◌}
 use Prim.Native.Nat.{◌*◌, ◌/◌, ◌%◌}
 use mir.Syntax.{w64}
 use mir.ValLaws.{to_z-of_z}
-use borrow.Author.Rules.{rules}
 use Rattle.rules.specs.Answer.{limit_fault}
 use Rattle.rules.specs.Vertical as Vertical
 use Rattle.vertical_compare.specs.Lanes.{lane-fits}

@@ -3,7 +3,6 @@
 use mathlib.Core.Path.{◌≡◌, sym, ◌∙◌}
 use Prim.Native.Nat.{◌≤◌}
 use lib.ListN.{length}
-use borrow.Author.Rules.{rules}
 use Rattle.rules.specs.Bits.{ceil}
 use Rattle.rules.specs.Vertical.{page_words, page_fault}
 use Rattle.rules.specs.Answer.{◌then◌, room_fault}
@@ -44,7 +43,7 @@ counted-requires c =
     let s = c in
     let e = s in
     let kept : length s.select.new.bitmap ≡ length
-    e.args.bitmap.now = s.select.auto.1.1.1.1.0 in
+    e.args.bitmap.now = s.select.auto.bitmap in
     (e.requires.1, rw kept (good).0)
 
 pub returns : goal.returns

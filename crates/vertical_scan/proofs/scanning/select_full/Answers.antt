@@ -1,7 +1,6 @@
--- `vertical_scan::scanning::select_full` meets its contract. The loop's invariant: the words of the groups passed
--- are in place.
+-- `vertical_scan::scanning::select_full` meets its contract.
 use mathlib.Core.Path.{◌≡◌, sym, ap, ◌∙◌}
-use Prim.Native.Nat.{ℕ, ◌+◌, ◌-◌, ◌*◌, ◌%◌, ◌^◌, ◌≤◌}
+use Prim.Native.Nat.{ℕ, ◌+◌, ◌*◌, ◌%◌, ◌^◌}
 use native.Mathlib.Nat.{mod-eq_of_lt}
 use native.Mathlib.Omega.{arith}
 use lib.ListN.{length}
@@ -28,7 +27,7 @@ loop-g-preserved c =
     let bits : s.group_bits.result ≡ lanes64 a.words.now (l.g * a.w) a.w a.band % 2 ^ 64 =
     s.group_bits.ensures ∙ sym (mod-eq_of_lt (lanes_lt a.words.now (l.g * a.w) a.w a.band)) in
     let more : 64 * (l.g + 1) ≡ 64 * l.g + 64 = omega arith in
-    let kept : length s.store8.new.s ≡ length l.bitmap = s.store8.auto.0 in (
+    let kept : length s.store8.new.s ≡ length l.bitmap = s.store8.auto.s in (
       omega arith,
       kept ∙ l.invariant.1,
       s.store8.ensures ∙ ap (λ x. put x (8 * l.g) (bytes 8 s.group_bits.result)) l.invariant.2
