@@ -16,7 +16,8 @@ use Rattle.promises.specs.Layouts.{Layout}
 use Rattle.promises.specs.Signed.{signed}
 use Rattle.promises.specs.Scans.{Selects}
 use Rattle.promises.specs.Writes.{Fills}
-use Rattle.promises.specs.DictionaryFaults.{Exact, Indexes, index_of, indexes-cut, column-exact}
+use Rattle.promises.specs.DictionaryFaults.{Exact, Indexes, index_of, indexes-cut}
+use Rattle.promises.proofs.DictionaryFaults.{column-exact}
 
 abbrev pub dictionary : Layout (List ℕ) ℤ
 dictionary =
