@@ -21,7 +21,8 @@ pub loop-left-init : goal.loop-left-init
 loop-left-init c =
     let a = c.args in (
       refl,
-      pass_start (selects (ranged a.range)) 32 a.page.now a.size a.minis a.n a.from _ a.bitmap.now a.start c.requires.5
+      pass_start (selects (ranged a.range)) 32 a.page.now a.size a.minis a.n a.from _ a.bitmap.now a.start
+          c.requires.5
           (selects-none (ranged a.range) 0 a.bitmap.now),
     )
 
@@ -106,7 +107,8 @@ returns-in-Unlaid c =
     absurd
     (never
     (refused c.loop-left-test.true l.invariant.1.comes
-    (block_is a.size a.minis l.left a.page.now l.at c.needed_of-need.ensures c.block_at-block.ensures ∙ c.in-Unlaid.is)))
+    (block_is a.size a.minis l.left a.page.now l.at c.needed_of-need.ensures c.block_at-block.ensures
+        ∙ c.in-Unlaid.is)))
 
 -- no delta is left
 pub returns-then-i-n : goal.returns-then-i-n
@@ -114,7 +116,8 @@ returns-then-i-n c =
     let l = c.loop-left in
     let a = c.args in
     let none : l.left ≡ 0 = omega arith in
-    pass-last (selects (ranged a.range)) 32 a.page.now a.size a.minis a.n a.from _ a.bitmap.now (rw none at l.invariant.1)
+    pass-last (selects (ranged a.range)) 32 a.page.now a.size a.minis a.n a.from _ a.bitmap.now
+        (rw none at l.invariant.1)
     (selects-more (ranged a.range) 0 a.bitmap.now a.n (omega arith) (omega (arith, c.requires.3))) c.if-i-n.true
     (selects-bit (ranged a.range) l.i l.bitmap l.x c.passes.result (omega (arith, l.invariant.0)) c.passes.ensures)
 
@@ -123,4 +126,5 @@ returns-else-i-n c =
     let l = c.loop-left in
     let a = c.args in
     let none : l.left ≡ 0 = omega arith in
-    pass-end (selects (ranged a.range)) 32 a.page.now a.size a.minis a.n a.from _ a.bitmap.now (rw none at l.invariant.1) c.if-i-n.false
+    pass-end (selects (ranged a.range)) 32 a.page.now a.size a.minis a.n a.from _ a.bitmap.now
+        (rw none at l.invariant.1) c.if-i-n.false

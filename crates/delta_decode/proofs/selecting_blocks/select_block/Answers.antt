@@ -71,7 +71,8 @@ loop-q-preserved c =
     let part = part_rest a.page.now l.at in (
       omega arith,
       search rules,
-      turn-next (selects (ranged a.range)) 32 a.page.now a.block a.from a.room a.i a.bitmap.now c.requires.0 c.loop-q-test.true
+      turn-next (selects (ranged a.range)) 32 a.page.now a.block a.from a.room a.i a.bitmap.now c.requires.0
+          c.loop-q-test.true
           l.invariant.2 (selects-more (ranged a.range) a.i a.bitmap.now a.room c.requires.1 c.requires.3)
           c.min-k.ensures
           (record { entry = rw (part, same) at e.entry; wrote = rw (part, same) at e.wrote }),
@@ -83,5 +84,6 @@ returns c =
     let a = c.args in
     let all : l.q ≡ a.block.need = omega arith in
     let p =
-    turn_end (selects (ranged a.range)) 32 a.page.now a.block a.from a.room a.i a.bitmap.now (rw all at l.invariant.2) in
+    turn_end (selects (ranged a.range)) 32 a.page.now a.block a.from a.room a.i a.bitmap.now
+        (rw all at l.invariant.2) in
     record { entry = p.entry; wrote = p.wrote }

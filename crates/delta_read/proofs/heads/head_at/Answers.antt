@@ -20,7 +20,8 @@ fromFirst n page size minis count r =
     reading Unopened (number_at 32 page r) (λ first next. judged n size minis count first next)
 
 abbrev fromCount : ℕ → List ℕ → ℕ → ℕ → ℕ → Head
-fromCount n page size minis q = reading Unopened (number_at 32 page q) (λ count r. fromFirst n page size minis count r)
+fromCount n page size minis q =
+    reading Unopened (number_at 32 page q) (λ count r. fromFirst n page size minis count r)
 
 abbrev fromMinis : ℕ → List ℕ → ℕ → ℕ → Head
 fromMinis n page size p = reading Unopened (number_at 32 page p) (λ minis q. fromCount n page size minis q)

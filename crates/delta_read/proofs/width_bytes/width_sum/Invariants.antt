@@ -1,4 +1,5 @@
 -- `delta_read::width_bytes::width_sum` meets its contract. The loop's invariant: the sum of the first k, which is
+-- small.
 use mathlib.Core.Path.{◌≡◌}
 use Prim.Native.Nat.{◌*◌, ◌-◌, ◌≤◌}
 use lib.ListN.{take, drop}

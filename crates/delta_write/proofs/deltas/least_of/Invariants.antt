@@ -1,4 +1,5 @@
 -- `delta_write::deltas::least_of` meets its contract: the least of the deltas passed goes on with those still to
+-- come.
 use Rattle.std.proofs.Common.{◌≡◌, ◌+◌, ◌-◌, ◌<◌, ◌≤◌, take, drop}
 use Rattle.rules.specs.DeltaWriter.{deltas, least_from, least}
 use Rattle.delta_write.proofs.deltas.least_of.Given as goal

@@ -14,10 +14,13 @@ pub above-requires : goal.above-requires
 above-requires c =
     let delta : let a = c.args in
     to_z w32 (of_z w32 c.delta_at.result)
-    ≡ get_or (deltas 32 a.entries.now) (a.from + c.loop-i.i) (pos 0) = kept w32 c.delta_at.result (record { sfits = c.delta_at.type_inv }) ∙ c.delta_at.ensures in
+    ≡ get_or (deltas 32 a.entries.now) (a.from + c.loop-i.i) (pos 0) =
+        kept w32 c.delta_at.result (record { sfits = c.delta_at.type_inv }) ∙ c.delta_at.ensures in
     let smallest : let a = c.args in
-    to_z w32 (of_z w32 a.smallest) ≡ least (take a.k (drop a.from (deltas 32 a.entries.now))) = kept w32 c.args.smallest c.ranges.smallest ∙ c.requires.3 in
-    let within : let a = c.args in a.from + a.k ≤ length (deltas 32 a.entries.now) = omega (arith, length-deltas 32 c.args.entries.now) in
+    to_z w32 (of_z w32 a.smallest) ≡ least (take a.k (drop a.from (deltas 32 a.entries.now))) =
+        kept w32 c.args.smallest c.ranges.smallest ∙ c.requires.3 in
+    let within : let a = c.args in a.from + a.k ≤ length (deltas 32 a.entries.now) =
+        omega (arith, length-deltas 32 c.args.entries.now) in
     let s = c in
     let a = s.args in
     rw (delta, smallest)
@@ -28,10 +31,13 @@ pub loop-i-preserved : goal.loop-i-preserved
 loop-i-preserved c =
     let delta : let a = c.args in
     to_z w32 (of_z w32 c.delta_at.result)
-    ≡ get_or (deltas 32 a.entries.now) (a.from + c.loop-i.i) (pos 0) = kept w32 c.delta_at.result (record { sfits = c.delta_at.type_inv }) ∙ c.delta_at.ensures in
+    ≡ get_or (deltas 32 a.entries.now) (a.from + c.loop-i.i) (pos 0) =
+        kept w32 c.delta_at.result (record { sfits = c.delta_at.type_inv }) ∙ c.delta_at.ensures in
     let smallest : let a = c.args in
-    to_z w32 (of_z w32 a.smallest) ≡ least (take a.k (drop a.from (deltas 32 a.entries.now))) = kept w32 c.args.smallest c.ranges.smallest ∙ c.requires.3 in
-    let within : let a = c.args in a.from + a.k ≤ length (deltas 32 a.entries.now) = omega (arith, length-deltas 32 c.args.entries.now) in
+    to_z w32 (of_z w32 a.smallest) ≡ least (take a.k (drop a.from (deltas 32 a.entries.now))) =
+        kept w32 c.args.smallest c.ranges.smallest ∙ c.requires.3 in
+    let within : let a = c.args in a.from + a.k ≤ length (deltas 32 a.entries.now) =
+        omega (arith, length-deltas 32 c.args.entries.now) in
     let d = c in
     let l = d.loop-i in
     let s = d in
@@ -50,7 +56,8 @@ loop-i-preserved c =
 
 pub returns : goal.returns
 returns c =
-    let within : let a = c.args in a.from + a.k ≤ length (deltas 32 a.entries.now) = omega (arith, length-deltas 32 c.args.entries.now) in
+    let within : let a = c.args in a.from + a.k ≤ length (deltas 32 a.entries.now) =
+        omega (arith, length-deltas 32 c.args.entries.now) in
     let l = c.loop-i in
     let s = c in
     let a = s.args in

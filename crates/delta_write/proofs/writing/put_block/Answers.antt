@@ -27,7 +27,8 @@ put_widths-requires c =
     numbered 32 (take a.k (drop a.from (deltas 32 a.entries.now))) (rw length-take (omega arith))
     c.put_numbers-smallest.ensures.stored c.put_numbers-smallest.ensures.smallest in
     let one : let p = c in let a = p.args in
-    Stored a.page.now a.at (shortest p.put_numbers-smallest.result) c.put_number-widths.new.page c.put_number-widths.result = let p = c in
+    Stored a.page.now a.at (shortest p.put_numbers-smallest.result) c.put_number-widths.new.page
+        c.put_number-widths.result = let p = c in
     let a = p.args in
     let n = made in
     stored-first a.page.now a.at (shortest p.put_numbers-smallest.result) c.put_number-widths.ensures.stored
@@ -45,7 +46,8 @@ overflow_add-widths c =
     numbered 32 (take a.k (drop a.from (deltas 32 a.entries.now))) (rw length-take (omega arith))
     c.put_numbers-smallest.ensures.stored c.put_numbers-smallest.ensures.smallest in
     let one : let p = c in let a = p.args in
-    Stored a.page.now a.at (shortest p.put_numbers-smallest.result) c.put_number-widths.new.page c.put_number-widths.result = let p = c in
+    Stored a.page.now a.at (shortest p.put_numbers-smallest.result) c.put_number-widths.new.page
+        c.put_number-widths.result = let p = c in
     let a = p.args in
     let n = made in
     stored-first a.page.now a.at (shortest p.put_numbers-smallest.result) c.put_number-widths.ensures.stored
@@ -64,7 +66,8 @@ put_bodies-requires c =
     numbered 32 (take a.k (drop a.from (deltas 32 a.entries.now))) (rw length-take (omega arith))
     c.put_numbers-smallest.ensures.stored c.put_numbers-smallest.ensures.smallest in
     let one : let p = c in let a = p.args in
-    Stored a.page.now a.at (shortest p.put_numbers-smallest.result) c.put_number-widths.new.page c.put_number-widths.result = let p = c in
+    Stored a.page.now a.at (shortest p.put_numbers-smallest.result) c.put_number-widths.new.page
+        c.put_number-widths.result = let p = c in
     let a = p.args in
     let n = made in
     stored-first a.page.now a.at (shortest p.put_numbers-smallest.result) c.put_number-widths.ensures.stored
@@ -94,7 +97,8 @@ returns c =
     numbered 32 (take a.k (drop a.from (deltas 32 a.entries.now))) (rw length-take (omega arith))
     c.put_numbers-smallest.ensures.stored c.put_numbers-smallest.ensures.smallest in
     let one : let p = c in let a = p.args in
-    Stored a.page.now a.at (shortest p.put_numbers-smallest.result) c.put_number-widths.new.page c.put_number-widths.result = let p = c in
+    Stored a.page.now a.at (shortest p.put_numbers-smallest.result) c.put_number-widths.new.page
+        c.put_number-widths.result = let p = c in
     let a = p.args in
     let n = made in
     stored-first a.page.now a.at (shortest p.put_numbers-smallest.result) c.put_number-widths.ensures.stored

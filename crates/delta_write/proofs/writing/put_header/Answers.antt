@@ -14,7 +14,8 @@ put_number-count-requires c =
     c.put_number-minis.result = let s = c in
     stored-first s.args.page.now 0 (shortest 128) c.put_number-minis.ensures.stored c.put_number-minis.ensures.next
     (omega (arith, length-header s.args.entries.now)) in
-    let room2 : c.put_number-minis.result + length (shortest 4) ≤ length c.put_number-minis.new.page = let o = one in omega (arith, length-header c.args.entries.now) in
+    let room2 : c.put_number-minis.result + length (shortest 4) ≤ length c.put_number-minis.new.page = let o =
+        one in omega (arith, length-header c.args.entries.now) in
     room2
 
 pub put_number-first-requires : goal.put_number-first-requires
@@ -23,12 +24,15 @@ put_number-first-requires c =
     c.put_number-minis.result = let s = c in
     stored-first s.args.page.now 0 (shortest 128) c.put_number-minis.ensures.stored c.put_number-minis.ensures.next
     (omega (arith, length-header s.args.entries.now)) in
-    let room2 : c.put_number-minis.result + length (shortest 4) ≤ length c.put_number-minis.new.page = let o = one in omega (arith, length-header c.args.entries.now) in
+    let room2 : c.put_number-minis.result + length (shortest 4) ≤ length c.put_number-minis.new.page = let o =
+        one in omega (arith, length-header c.args.entries.now) in
     let two : let s = c in
-    Stored s.args.page.now 0 (shortest 128 ++ shortest 4) c.put_number-count.new.page c.put_number-count.result = let o = c in
+    Stored s.args.page.now 0 (shortest 128 ++ shortest 4) c.put_number-count.new.page c.put_number-count.result =
+        let o = c in
     stored-behind (shortest 4) (one) c.put_number-count.ensures.stored c.put_number-count.ensures.next (room2) in
     let room3 : let s = c in
-    c.put_number-count.result + length (shortest (length s.args.entries.now)) ≤ length c.put_number-count.new.page = let s = c in
+    c.put_number-count.result + length (shortest (length s.args.entries.now)) ≤ length c.put_number-count.new.page =
+        let s = c in
     let o = one in
     let t = two in
     omega (arith, c.put_number-count.ensures.next, length-header s.args.entries.now) in
@@ -40,12 +44,15 @@ put_number-requires c =
     c.put_number-minis.result = let s = c in
     stored-first s.args.page.now 0 (shortest 128) c.put_number-minis.ensures.stored c.put_number-minis.ensures.next
     (omega (arith, length-header s.args.entries.now)) in
-    let room2 : c.put_number-minis.result + length (shortest 4) ≤ length c.put_number-minis.new.page = let o = one in omega (arith, length-header c.args.entries.now) in
+    let room2 : c.put_number-minis.result + length (shortest 4) ≤ length c.put_number-minis.new.page = let o =
+        one in omega (arith, length-header c.args.entries.now) in
     let two : let s = c in
-    Stored s.args.page.now 0 (shortest 128 ++ shortest 4) c.put_number-count.new.page c.put_number-count.result = let o = c in
+    Stored s.args.page.now 0 (shortest 128 ++ shortest 4) c.put_number-count.new.page c.put_number-count.result =
+        let o = c in
     stored-behind (shortest 4) (one) c.put_number-count.ensures.stored c.put_number-count.ensures.next (room2) in
     let room3 : let s = c in
-    c.put_number-count.result + length (shortest (length s.args.entries.now)) ≤ length c.put_number-count.new.page = let s = c in
+    c.put_number-count.result + length (shortest (length s.args.entries.now)) ≤ length c.put_number-count.new.page =
+        let s = c in
     let o = one in
     let t = two in
     omega (arith, c.put_number-count.ensures.next, length-header s.args.entries.now) in
@@ -78,12 +85,15 @@ returns c =
     c.put_number-minis.result = let s = c in
     stored-first s.args.page.now 0 (shortest 128) c.put_number-minis.ensures.stored c.put_number-minis.ensures.next
     (omega (arith, length-header s.args.entries.now)) in
-    let room2 : c.put_number-minis.result + length (shortest 4) ≤ length c.put_number-minis.new.page = let o = one in omega (arith, length-header c.args.entries.now) in
+    let room2 : c.put_number-minis.result + length (shortest 4) ≤ length c.put_number-minis.new.page = let o =
+        one in omega (arith, length-header c.args.entries.now) in
     let two : let s = c in
-    Stored s.args.page.now 0 (shortest 128 ++ shortest 4) c.put_number-count.new.page c.put_number-count.result = let o = c in
+    Stored s.args.page.now 0 (shortest 128 ++ shortest 4) c.put_number-count.new.page c.put_number-count.result =
+        let o = c in
     stored-behind (shortest 4) (one) c.put_number-count.ensures.stored c.put_number-count.ensures.next (room2) in
     let room3 : let s = c in
-    c.put_number-count.result + length (shortest (length s.args.entries.now)) ≤ length c.put_number-count.new.page = let s = c in
+    c.put_number-count.result + length (shortest (length s.args.entries.now)) ≤ length c.put_number-count.new.page =
+        let s = c in
     let o = one in
     let t = two in
     omega (arith, c.put_number-count.ensures.next, length-header s.args.entries.now) in

@@ -1,4 +1,5 @@
 -- `spans_list::turns::edges_in` meets its contract. The loop's invariant: the edges of the words passed are
+-- counted, and the carry is the last entry passed.
 use mathlib.Core.Path.{◌≡◌}
 use Prim.Native.Nat.{◌-◌, ◌*◌, ◌/◌, ◌≤◌}
 use lib.ListN.{length}
