@@ -1,4 +1,5 @@
 -- `pack::vertical::pack_groups` meets its contract. The loop's invariant: the planes of the groups passed are in
+-- place.
 use mathlib.Core.Path.{◌≡◌}
 use Prim.Native.Nat.{◌+◌, ◌-◌, ◌*◌, ◌/◌, ◌%◌, ◌≤◌}
 use lib.ListN.{length}

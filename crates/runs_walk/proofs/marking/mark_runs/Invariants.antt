@@ -1,4 +1,6 @@
 -- `runs_walk::marking::mark_runs` meets its contract. The loop's invariant: going on from here leaves what the pass
+-- leaves.
+-- Each run has an entry, so fewer are left with each turn.
 use mathlib.Core.Path.{◌≡◌}
 use Prim.Native.Nat.{◌+◌, ◌-◌, ◌≤◌}
 use lib.ListN.{length}

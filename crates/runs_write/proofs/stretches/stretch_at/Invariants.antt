@@ -1,4 +1,5 @@
 -- `runs_write::stretches::stretch_at` meets its contract: the entries passed are equal to the first, and what is
+-- equal behind them is still to come.
 use mathlib.Core.Path.{◌≡◌}
 use Prim.Native.Nat.{◌+◌, ◌-◌, ◌≤◌, ◌<◌}
 use lib.ListN.{length, drop}

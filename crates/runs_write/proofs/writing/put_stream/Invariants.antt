@@ -1,4 +1,5 @@
 -- `runs_write::writing::put_stream` meets its contract: the runs passed are stored, and the stream from here on is
+-- to come behind them.
 use mathlib.Core.Path.{◌≡◌}
 use Prim.Native.Nat.{◌+◌, ◌-◌}
 use lib.ListN.{length, drop}
