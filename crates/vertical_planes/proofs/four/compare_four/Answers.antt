@@ -6,7 +6,8 @@ use lib.ListN.{length}
 use Rattle.vertical_planes.specs.Standing.{stepped, Standing}
 use Rattle.vertical_planes.specs.FourNext.{in_step, all_open, all_or_none, next_of}
 use Rattle.vertical_planes.proofs.four.compare_four.Goals as goal
-use Rattle.vertical_planes.proofs.four.compare_four.Goals.{then-in_step+then-loop-four-test+else-all_open, then-in_step+else-loop-four-test, else-in_step}
+use Rattle.vertical_planes.proofs.four.compare_four.Goals.{then-in_step+then-loop-four-test+else-all_open}
+use Rattle.vertical_planes.proofs.four.compare_four.Goals.{then-in_step+else-loop-four-test, else-in_step}
 
 pub begin-requires : goal.begin-requires
 begin-requires c = record { few = omega arith; masked = c.requires.masked }
@@ -54,7 +55,7 @@ loop-four-preserved c =
     let more = c.loop-four-test.true in
     let some : (0 < f.first.undecided) × (0 < f.second.undecided) × (0 < f.third.undecided)
     × (0 < f.fourth.undecided) =
-    all_open _ _ _ _ (sym c.all_open.ensures ∙ c.if-all_open.true) in
+    all_open f.first.undecided f.second.undecided f.third.undecided f.fourth.undecided (cc) in
     let upper : (f.first.upper < 2 ^ 64) × (f.second.upper < 2 ^ 64) × (f.third.upper < 2 ^ 64)
     × (f.fourth.upper < 2 ^ 64) = (omega arith, omega arith, omega arith, omega arith) in
     let w = length a.first.now in

@@ -26,7 +26,7 @@ loop-left-preserved c =
     let more = c.loop-left-test.true in
     let upper : l.left.upper < 2 ^ 64 = omega arith in
     rw c.step-left.ensures
-    (standing_next a.planes.now a.band l.left l.invariant more (omega (arith, c.if-left-eq0.false))
+    (standing_next a.planes.now a.band l.left l.invariant more (omega arith)
     (c.type_inv.planes k).fits upper
     _ _ _ refl (c.requires.masked.0 k more) (c.requires.masked.1 k more))
 
