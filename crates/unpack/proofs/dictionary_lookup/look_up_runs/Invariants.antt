@@ -12,7 +12,8 @@ use Rattle.unpack.proofs.dictionary_lookup.look_up_runs.Given as goal
 abbrev pub invariant-loop-i : goal.invariant-loop-i
 invariant-loop-i l =
     (l.i ≤ l.n + 7) × (length l.entries ≡ length l.initial.entries)
-    × onward l.n (places (value l.dict)) l.w l.page (placed (value l.dict) l.w l.n l.page l.initial.entries) l.at l.i l.entries
+    × onward l.n (places (value l.dict)) l.w l.page (placed (value l.dict) l.w l.n l.page l.initial.entries) l.at l.i
+    l.entries
 
 abbrev pub decreases-loop-i : goal.decreases-loop-i
 decreases-loop-i l = l.n - l.i

@@ -11,7 +11,8 @@ use Rattle.unpack.proofs.dictionary_lookup.place_body.Given as goal
 abbrev pub invariant-loop-i : goal.invariant-loop-i
 invariant-loop-i l =
     (l.i ≤ l.m) × (8 * l.from ≡ 8 * l.start + l.i * l.w) × (length l.entries ≡ length l.initial.entries)
-    × (l.entries ≡ put l.initial.entries l.p (tabulate l.i (λ k. value l.dict (field low_first l.page (8 * l.start + k * l.w) l.w))))
+    × (l.entries ≡ put l.initial.entries l.p
+    (tabulate l.i (λ k. value l.dict (field low_first l.page (8 * l.start + k * l.w) l.w))))
 
 abbrev pub decreases-loop-i : goal.decreases-loop-i
 decreases-loop-i l = l.m - l.i
