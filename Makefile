@@ -8,28 +8,26 @@ CARGO = CAHERMISK_LIB_DIR=$(CURDIR)/target/staticlib CARGO_TARGET_DIR=$(CURDIR)/
 
 help:
 	@echo 'make run     prove the program scan and what it stands on, and scan the sample day'
-	@echo 'make test    the gate: prove everything from nothing, then test the library just proved'
+	@echo 'make test    the gate: prove everything, then test the library just proved'
 	@echo 'make lib     prove the library and build it into target/staticlib, unless nothing has changed'
 	@echo 'make install copy what make lib and make run built below PREFIX (/usr/local): the library, its header,'
 	@echo '             cahermisk.pc, the man page of scan and, on x86-64, scan; make uninstall removes them'
 	@echo 'make bench   the library, then its speed beside Rust loops for the same job, drawn in target/speed.svg'
 	@echo 'make stress  the library, then random and damaged pages for CAHERMISK_STRESS_SECONDS (120), beside the second reader'
 	@echo 'make figures what the last `make test` saw, into docs/FIGURES.md and the end of docs/SHAMS.md; and wrong definitions'
-	@echo 'make clean   remove what was built (target/)'
-
-# rt waits for all crates that it began together: of four at once, two processors lose less than of two.
-JOBS = RT_JOBS=$${RT_JOBS:-4}
+	@echo 'make clean   remove what was built (target/, crates/*/out/)'
 
 run: need-rt need-target
 	@echo 'Proving the program and what it stands on; the first time this takes some minutes.' >&2
-	@$(JOBS) tools/prove target/prove.log check scan
+	@tools/prove target/prove.log run scan -- help
+	@tools/program
 	@tools/sample-day
 
 test: need-rt need-target need-cargo need-cc need-c++
 	@tools/gate
 
 lib: need-rt need-target
-	@$(JOBS) tools/lib
+	@tools/lib
 
 # Where things are installed; DESTDIR goes before each of these folders.
 PREFIX = /usr/local
@@ -62,7 +60,7 @@ figures:
 	  echo '## What was seen'; echo; echo '$(SEEN)'; echo; tools/shams-seen | sed 's/^/    /'; } >>docs/SHAMS.md
 
 clean:
-	rm -rf target
+	rm -rf target crates/*/out
 
 # What of the toolchain is missing, and whether there is a folder to build in.
 need-rt:

@@ -39,7 +39,7 @@ fn functions(text: &str) -> Vec<Function<'_>> {
 
 #[test]
 fn a_function_that_owes_its_contract_is_found() {
-    let text = "pub fn bare(n: u8) {\n    n\n}\n\npub fn told(\n    n: u8,\n) -> u8\n    requires { ⌜ n ⌝ }\n    ensures { λ r. ⌜ r ⌝ }\n{\n    n\n}\n\npub extern \"C\" fn lent(n: u8)\n    requires { ⌜ n ⌝ }\n    ensures { λ r. ⌜ r ⌝ }\n{\n}\n\nfn own() {\n}\n";
+    let text = "pub fn bare(n: u8) {\n    n\n}\n\npub fn told(\n    n: u8,\n) -> u8\n    requires { n }\n    ensures { result }\n{\n    n\n}\n\npub extern \"C\" fn lent(n: u8)\n    requires { n }\n    ensures { result }\n{\n}\n\nfn own() {\n}\n";
     let found = functions(text);
     let names: Vec<&str> = found.iter().map(|function| function.name).collect();
     assert_eq!(names, ["bare", "told", "lent"]);
@@ -78,5 +78,36 @@ fn every_public_function_has_its_contract() {
     assert!(
         all > 180 && exported >= 24,
         "{all} public functions and {exported} exported ones were found"
+    );
+}
+
+/// What C calls promises what the library's function of the same name does, word for word.
+#[test]
+fn the_exported_functions_have_the_clauses_of_the_library() {
+    let crates = Path::new(env!("CARGO_MANIFEST_DIR")).join("../crates");
+    let mut compared = 0;
+    for exported in sources(&crates.join("cahermisk_c/src")) {
+        let file = exported.file_name().expect("a source's name");
+        let library = crates.join("cahermisk/src").join(file);
+        let [exported, library] = [exported, library].map(|path| {
+            fs::read_to_string(&path).unwrap_or_else(|e| panic!("{}: {e}", path.display()))
+        });
+        let known = functions(&library);
+        for function in functions(&exported) {
+            let plain = function.head[0].replace("pub extern \"C\" fn", "pub fn");
+            let same = known
+                .iter()
+                .any(|other| other.head[0] == plain && other.head[1..] == function.head[1..]);
+            assert!(
+                same,
+                "{} has other clauses than the library's",
+                function.name
+            );
+            compared += 1;
+        }
+    }
+    assert!(
+        compared >= 24,
+        "{compared} exported functions were compared"
     );
 }

@@ -9,8 +9,7 @@ use pack::delta::pack;
 use rules::Answer;
 use unpack::delta::unpack;
 
-#[unsafe(no_mangle)]
-pub extern "C" fn cahermisk_delta_scan(
+pub fn cahermisk_delta_scan(
     page: &[u8],
     n: usize,
     op: u32,
@@ -24,16 +23,14 @@ pub extern "C" fn cahermisk_delta_scan(
     scan(page, n, op, a, b, bitmap)
 }
 
-#[unsafe(no_mangle)]
-pub extern "C" fn cahermisk_delta_unpack(page: &[u8], n: usize, entries: &mut [i32]) -> Answer
+pub fn cahermisk_delta_unpack(page: &[u8], n: usize, entries: &mut [i32]) -> Answer
     ensures { outcome result entries.new
         ≡ Delta.unpack 32 page.now n entries.old }
 {
     unpack(page, n, entries)
 }
 
-#[unsafe(no_mangle)]
-pub extern "C" fn cahermisk_delta_pack(entries: &[i32], page: &mut [u8]) -> Answer
+pub fn cahermisk_delta_pack(entries: &[i32], page: &mut [u8]) -> Answer
     ensures { outcome result page.new
         ≡ DeltaWriter.pack 32 entries.now page.old }
 {

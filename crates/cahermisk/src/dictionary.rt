@@ -7,8 +7,7 @@ use dictionary_scan::scanning::scan;
 use rules::Answer;
 use unpack::dictionary::unpack;
 
-#[unsafe(no_mangle)]
-pub extern "C" fn cahermisk_dictionary_scan(
+pub fn cahermisk_dictionary_scan(
     dict: &[u8],
     page: &[u8],
     n: usize,
@@ -23,8 +22,7 @@ pub extern "C" fn cahermisk_dictionary_scan(
     scan(dict, page, n, op, a, b, bitmap)
 }
 
-#[unsafe(no_mangle)]
-pub extern "C" fn cahermisk_dictionary_unpack(
+pub fn cahermisk_dictionary_unpack(
     dict: &[u8],
     page: &[u8],
     n: usize,

@@ -9,8 +9,7 @@ use pack::horizontal::pack;
 use rules::Answer;
 use unpack::horizontal::unpack;
 
-#[unsafe(no_mangle)]
-pub extern "C" fn cahermisk_horizontal_scan(
+pub fn cahermisk_horizontal_scan(
     page: &[u8],
     width: u32,
     n: usize,
@@ -25,8 +24,7 @@ pub extern "C" fn cahermisk_horizontal_scan(
     scan(page, width, n, op, a, b, bitmap)
 }
 
-#[unsafe(no_mangle)]
-pub extern "C" fn cahermisk_horizontal_unpack(
+pub fn cahermisk_horizontal_unpack(
     page: &[u8],
     width: u32,
     n: usize,
@@ -38,8 +36,7 @@ pub extern "C" fn cahermisk_horizontal_unpack(
     unpack(page, width, n, entries)
 }
 
-#[unsafe(no_mangle)]
-pub extern "C" fn cahermisk_horizontal_pack(entries: &[u32], width: u32, page: &mut [u8]) -> Answer
+pub fn cahermisk_horizontal_pack(entries: &[u32], width: u32, page: &mut [u8]) -> Answer
     ensures { outcome result page.new
         ≡ Horizontal.pack low_first entries.now width page.old }
 {

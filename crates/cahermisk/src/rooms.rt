@@ -16,15 +16,13 @@ fn entries_kept(n: usize) -> usize
     n
 }
 
-#[unsafe(no_mangle)]
-pub extern "C" fn cahermisk_bitmap_bytes(n: usize) -> usize
+pub fn cahermisk_bitmap_bytes(n: usize) -> usize
     ensures { result ≡ bitmap_bytes n }
 {
     (entries_kept(n) + 7) / 8
 }
 
-#[unsafe(no_mangle)]
-pub extern "C" fn cahermisk_horizontal_bytes(width: u32, n: usize) -> usize
+pub fn cahermisk_horizontal_bytes(width: u32, n: usize) -> usize
     ensures { result ≡ horizontal_bytes width n }
 {
     if unsigned_fault(width, n) != 0 {
@@ -33,8 +31,7 @@ pub extern "C" fn cahermisk_horizontal_bytes(width: u32, n: usize) -> usize
     (n * width as usize + 7) / 8
 }
 
-#[unsafe(no_mangle)]
-pub extern "C" fn cahermisk_vertical_words(width: u32, n: usize) -> usize
+pub fn cahermisk_vertical_words(width: u32, n: usize) -> usize
     ensures { result ≡ vertical_words width n }
 {
     if unsigned_fault(width, n) != 0 {
@@ -43,8 +40,7 @@ pub extern "C" fn cahermisk_vertical_words(width: u32, n: usize) -> usize
     (n + 63) / 64 * width as usize
 }
 
-#[unsafe(no_mangle)]
-pub extern "C" fn cahermisk_runs_bytes(width: u32, n: usize) -> usize
+pub fn cahermisk_runs_bytes(width: u32, n: usize) -> usize
     ensures { result ≡ runs_bytes width n }
 {
     if unsigned_fault(width, n) != 0 {
@@ -53,8 +49,7 @@ pub extern "C" fn cahermisk_runs_bytes(width: u32, n: usize) -> usize
     (n + 7) / 8 * (width as usize + 1)
 }
 
-#[unsafe(no_mangle)]
-pub extern "C" fn cahermisk_delta_bytes(n: usize) -> usize
+pub fn cahermisk_delta_bytes(n: usize) -> usize
     ensures { result ≡ delta_bytes n }
 {
     if signed_fault(n) != 0 {
@@ -63,8 +58,7 @@ pub extern "C" fn cahermisk_delta_bytes(n: usize) -> usize
     11 + (n + 126) / 128 * 521
 }
 
-#[unsafe(no_mangle)]
-pub extern "C" fn cahermisk_spans_places(n: usize) -> usize
+pub fn cahermisk_spans_places(n: usize) -> usize
     ensures { result ≡ spans_places n }
 {
     2 * ((entries_kept(n) + 1) / 2)

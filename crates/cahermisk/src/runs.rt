@@ -10,8 +10,7 @@ use runs_read::answering::one_answer;
 use runs_scan::scanning::scan;
 use unpack::runs::unpack;
 
-#[unsafe(no_mangle)]
-pub extern "C" fn cahermisk_runs_scan(
+pub fn cahermisk_runs_scan(
     page: &[u8],
     width: u32,
     n: usize,
@@ -26,8 +25,7 @@ pub extern "C" fn cahermisk_runs_scan(
     scan(page, width, n, op, a, b, bitmap)
 }
 
-#[unsafe(no_mangle)]
-pub extern "C" fn cahermisk_runs_unpack(
+pub fn cahermisk_runs_unpack(
     page: &[u8],
     width: u32,
     n: usize,
@@ -39,16 +37,14 @@ pub extern "C" fn cahermisk_runs_unpack(
     unpack(page, width, n, entries)
 }
 
-#[unsafe(no_mangle)]
-pub extern "C" fn cahermisk_runs_pack(entries: &[u32], width: u32, page: &mut [u8]) -> Answer
+pub fn cahermisk_runs_pack(entries: &[u32], width: u32, page: &mut [u8]) -> Answer
     ensures { outcome result page.new
         ≡ RunWriter.pack entries.now width page.old }
 {
     pack(entries, width, page)
 }
 
-#[unsafe(no_mangle)]
-pub extern "C" fn cahermisk_runs_next(
+pub fn cahermisk_runs_next(
     page: &[u8],
     width: u32,
     n: usize,

@@ -7,16 +7,14 @@ use rules::Answer;
 use spans_list::from_bitmap::from_bitmap;
 use spans_mark::to_bitmap::to_bitmap;
 
-#[unsafe(no_mangle)]
-pub extern "C" fn cahermisk_spans_from_bitmap(bitmap: &[u8], n: usize, spans: &mut [u32]) -> Answer
+pub fn cahermisk_spans_from_bitmap(bitmap: &[u8], n: usize, spans: &mut [u32]) -> Answer
     ensures { outcome result spans.new
         ≡ Spans.from_bitmap bitmap.now n spans.old }
 {
     from_bitmap(bitmap, n, spans)
 }
 
-#[unsafe(no_mangle)]
-pub extern "C" fn cahermisk_spans_to_bitmap(spans: &[u32], n: usize, bitmap: &mut [u8]) -> Answer
+pub fn cahermisk_spans_to_bitmap(spans: &[u32], n: usize, bitmap: &mut [u8]) -> Answer
     ensures { outcome result bitmap.new
         ≡ Spans.to_bitmap spans.now n bitmap.old }
 {

@@ -2,8 +2,7 @@
 ghost use Rattle.std.specs.Prelude.{◌≡◌};
 ghost use Rattle.cahermisk.specs.Version.{numbered};
 
-#[unsafe(no_mangle)]
-pub extern "C" fn cahermisk_version() -> u32
+pub fn cahermisk_version() -> u32
     ensures { result ≡ numbered 0 4 0 }
 {
     4000

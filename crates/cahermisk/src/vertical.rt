@@ -8,8 +8,7 @@ use rules::Answer;
 use unpack::vertical::unpack;
 use vertical_scan::scanning::scan;
 
-#[unsafe(no_mangle)]
-pub extern "C" fn cahermisk_vertical_scan(
+pub fn cahermisk_vertical_scan(
     words: &[u64],
     width: u32,
     n: usize,
@@ -24,8 +23,7 @@ pub extern "C" fn cahermisk_vertical_scan(
     scan(words, width, n, op, a, b, bitmap)
 }
 
-#[unsafe(no_mangle)]
-pub extern "C" fn cahermisk_vertical_unpack(
+pub fn cahermisk_vertical_unpack(
     words: &[u64],
     width: u32,
     n: usize,
@@ -37,8 +35,7 @@ pub extern "C" fn cahermisk_vertical_unpack(
     unpack(words, width, n, entries)
 }
 
-#[unsafe(no_mangle)]
-pub extern "C" fn cahermisk_vertical_pack(entries: &[u32], width: u32, words: &mut [u64]) -> Answer
+pub fn cahermisk_vertical_pack(entries: &[u32], width: u32, words: &mut [u64]) -> Answer
     ensures { outcome result words.new
         ≡ Vertical.pack entries.now width words.old }
 {

@@ -116,13 +116,13 @@ module _ {O : Type 0} (write : ℕ → ℕ → (ℕ → ℕ) → O → O) (W : �
           omega
           (arith, c.count, h.wanted, suc-mul q b.size, mul-le-mul_right {m = suc q} {n = b.need} b.size more)
 
-      body_bytes : body_bytes (b.need - q) b.size page (b.widths + q)
+      body_bytes_lem : body_bytes (b.need - q) b.size page (b.widths + q)
           ≡ b.size / 8 * width_of page b q + body_bytes (b.need - q - 1) b.size page (b.widths + q + 1)
-      body_bytes = first_body (b.need - q) b.size page (b.widths + q) (omega arith) (omega (arith, h.there))
+      body_bytes_lem = first_body (b.need - q) b.size page (b.widths + q) (omega arith) (omega (arith, h.there))
 
       -- its body ends on the page
       pub body-ends : at + b.size / 8 * width_of page b q ≤ length page
-      body-ends = omega (arith, body_bytes, c.bodies)
+      body-ends = omega (arith, body_bytes_lem, c.bodies)
 
       pub turn-next : {k x' : ℕ} {out' : O} → Grows write i room out₀ → k ≡ min b.size (room - done)
           → Passed write W x (packed_step (modulo W (zigzag b.least)) (drop at page) (width_of page b q)) (i + done)
@@ -148,7 +148,7 @@ module _ {O : Type 0} (write : ℕ → ℕ → (ℕ → ℕ) → O → O) (W : �
                 rw (← one, ← on)
                 (drop_more D M R done e b.size
                 (length-mini b.size (zigzag b.least) page at (width_of page b q)));
-            bodies = rw (← one, ← on) (omega (arith, body_bytes, c.bodies));
+            bodies = rw (← one, ← on) (omega (arith, body_bytes_lem, c.bodies));
             so =
                 rw then at
                 (passed-more write W from (step W D) i out₀ room done k x x' out out'

@@ -1,5 +1,5 @@
 -- The first fault of blocks and of a page. No fault has the code 0, so a page whose code is 0 holds its deltas.
-use Rattle.std.specs.Prelude.{◌≡◌, Bool, true, false, List, ◌++◌, ℕ, zero, suc, ◌+◌, ◌-◌, ◌/◌, ◌<◌, ℤ, ltb, length}
+use Rattle.std.specs.Prelude.{◌≡◌, Bool, true, false, List, ◌++◌, ℕ, zero, suc, ◌-◌, ◌/◌, ◌<◌, ℤ, ltb, length}
 use Rattle.std.proofs.Math.Path.{refl, ap}
 use Rattle.std.proofs.Common.{sym, subst, ◌∙◌, arith}
 use Rattle.rules.specs.Signed.{zigzag}

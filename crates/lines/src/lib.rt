@@ -1,10 +1,12 @@
 // A line of text: laid out first, then written. What is past its 120 places is left out.
 #![tactic(auto)]
 
+pub mod streams;
+
 ghost use Rattle.std.specs.Prelude.{◌≡◌, [], ◌∷◌, ◌<◌, ◌-◌, min, take};
 ghost use Rattle.lines.specs.Text.{held, laid, decimal, hex_digit, hexadecimal, spelled, padding};
 
-use libc::STDOUT_FILENO;
+use crate::streams::{Stream, Streams};
 
 #[derive(Drop)]
 pub struct Line {
@@ -118,30 +120,30 @@ impl Line {
     }
 
     // Writes what is laid out so far, and gives back an empty line in which it goes on.
-    pub fn part(self, fd: i32) -> Line
+    pub fn part(self, streams: &Streams, to: Stream) -> Line
         ensures { held result ≡ [] }
     {
         let text = self.text;
         let all: &[u8; 120] = &text;
-        let is_taken = written_front(fd, all, self.used);
+        let is_taken = written_front(streams, to, all, self.used);
         Line::behind(self.lost || !is_taken)
     }
 
     // Writes the line, and gives back the next one, empty.
-    pub fn write(self, fd: i32) -> Line
+    pub fn write(self, streams: &Streams, to: Stream) -> Line
         ensures { held result ≡ [] }
     {
         let text = self.text;
         let all: &[u8; 120] = &text;
-        let is_taken = written_front(fd, all, self.used) && io::write_all(fd, b"\n");
+        let is_taken = written_front(streams, to, all, self.used) && streams.write_all(to, b"\n");
         Line::behind(self.lost || !is_taken)
     }
 
     // The same, on standard output.
-    pub fn end(self) -> Line
+    pub fn end(self, streams: &Streams) -> Line
         ensures { held result ≡ [] }
     {
-        self.write(STDOUT_FILENO)
+        self.write(streams, Stream::Output)
     }
 }
 
@@ -168,9 +170,9 @@ fn digit(d: u8) -> u8
     if d < 10 { b'0' + d } else { b'A' - 10 + d }
 }
 
-fn written_front(fd: i32, text: &[u8], n: usize) -> bool {
+fn written_front(streams: &Streams, to: Stream, text: &[u8], n: usize) -> bool {
     if text.len() < n {
         return false;
     }
-    io::write_all(fd, &text[0..n])
+    streams.write_all(to, &text[0..n])
 }

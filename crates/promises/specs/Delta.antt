@@ -1,7 +1,7 @@
 -- Delta pages are a layout of signed entries of W bits with a writer, and their three contracts are its. What the
 -- writer writes is read back.
 use Rattle.std.specs.Prelude.{◌≡◌, refl, List, ◌↔◌, ℕ, ◌<◌, ◌≤◌, ℤ, pos, length, take, get_or}
-use Rattle.std.proofs.Math.Logic.{Iff·rfl}
+use Rattle.std.proofs.Math.Logic.Iff
 use Rattle.std.proofs.Common.{arith}
 use Rattle.rules.specs.Bits.{ceil}
 use Rattle.rules.specs.Comparison.{holds}
@@ -21,7 +21,7 @@ use Rattle.promises.specs.Signed.{signed}
 abbrev pub delta : ℕ → Layout (Unit {0}) ℤ
 delta W =
     signed (λ page k n. Delta.page_fault (Delta.read W n page))
-    (λ page k n. Delta.page_fault (Delta.read W n page) ≡ 0) (λ page k n. Iff·rfl)
+    (λ page k n. Delta.page_fault (Delta.read W n page) ≡ 0) (λ page k n. Iff.rfl)
     (λ page k n. Delta.page_entry W (Delta.read W n page))
 
 -- every list fits: 17 never arises. Entries are read back where they are signed numbers of W bits, as those lent are

@@ -1,9 +1,9 @@
 -- When a dictionary column has no fault, in plain conditions: of its dictionary, of its index page by the published
--- grammar, and of its indexes.
+-- grammar, and of its indexes. The column as a whole: proofs/DictionaryFaults.
 use Rattle.std.specs.Prelude.{◌≡◌, refl, true, false, not, cond, ◌||◌, List, [], ◌∷◌, ◌↔◌, T, leb, ltb, ℤ, length, ◌<ℤ◌}
 use Rattle.std.proofs.Common.{ap, ap₂, ◌∙◌, arith}
 use Rattle.std.proofs.Math.Bool.{Bool}
-use Rattle.std.proofs.Math.Logic.{Iff·and, Iff·trans}
+use Rattle.std.proofs.Math.Logic.Iff
 use Prim.Native.Nat.{ℕ, suc, ◌-◌, ◌%◌, ◌≤◌, ◌<◌}
 use Rattle.std.specs.Int.Signed.{le_z, lt_z, lt_z_yes}
 use borrow.Author.Tests.{ltb-false, le-ltb, leb-false, lt-leb}
@@ -11,12 +11,11 @@ use Rattle.rules.specs.Runs.{read, stream_fault, stream_entry}
 use Rattle.rules.specs.Runs.Stream.{bad}
 use Rattle.rules.specs.Grammar.{Piece, Cut}
 use Rattle.rules.specs.Dictionary.{value, count, unordered, dictionary_fault, indexes, index_at, index_fault}
-use Rattle.rules.specs.Dictionary.{column_fault}
 use Rattle.words.specs.Tests as Tests
 use Rattle.words.specs.SomeBelow.{none_below, below_none}
 use Rattle.signed.specs.Order.{not_lt_z, not_le_z}
 use Rattle.runs_read.specs.Exact as Runs
-use Rattle.promises.specs.NoFault.{◌and◌, neither, no_fault, no_rest}
+use Rattle.promises.specs.NoFault.{◌and◌, no_fault, no_rest}
 use Rattle.promises.specs.Runs.{entry_of}
 
 -- 4-byte numbers, 65,536 bytes at most, strictly ascending
@@ -48,7 +47,7 @@ pub record Exact (page dict : List ℕ) (n : ℕ) : Type 0 where
 
 -- neither of two tests holds
 neither-holds : {P Q : Type 0} (s t : Bool) → (s ≡ false ↔ P) → (t ≡ false ↔ Q) → s || t ≡ false ↔ P and Q
-neither-holds s t p q = Iff·trans (Tests.neither s t, λ e. ap₂ ◌||◌ e.0 e.1) (Iff·and p q)
+neither-holds s t p q = Iff.trans (Tests.neither s t, λ e. ap₂ ◌||◌ e.0 e.1) (Iff.and p q)
 
 -- not at most is above
 above : (x y : ℤ) → le_z y x ≡ false ↔ x <ℤ y
@@ -71,8 +70,8 @@ module _ (dict : List ℕ) where
   pub dictionary-exact : dictionary_fault dict ≡ 0 ↔ Ascending dict
   unfolding dictionary_fault
   dictionary-exact =
-      Iff·trans (no_fault _ 14 (λ e. omega arith))
-      (Iff·trans
+      Iff.trans (no_fault _ 14 (λ e. omega arith))
+      (Iff.trans
       (neither-holds _ _
       (neither-holds _ _ (no_rest (length dict % 4)) (ltb-false 65536 (length dict), le-ltb 65536 (length dict)))
       ordered) (
@@ -115,17 +114,7 @@ pub below-exact : (page dict : List ℕ) (n : ℕ)
 unfolding index_fault
 below-exact page dict n =
     let test : ℕ → Bool = λ i. leb (count dict) (index_at n page i) in
-    Iff·trans (no_fault _ 15 (λ e. omega arith)) (
+    Iff.trans (no_fault _ 15 (λ e. omega arith)) (
       λ e i h. leb-false (count dict) (index_at n page i) (below_none n test e i h),
       λ h. none_below n test (λ i l. lt-leb (count dict) (index_at n page i) (h i l)),
-    )
-
--- 14, those of the index page, 15
-pub column-exact : (page dict : List ℕ) (n : ℕ) → column_fault dict n page ≡ 0 ↔ Exact page dict n
-unfolding column_fault
-column-exact page dict n =
-    Iff·trans
-    (neither _ _ (dictionary-exact dict) (neither _ _ (indexes-exact page n) (below-exact page dict n))) (
-      λ e. record { ascending = e.0; cuttable = e.1.0; below = rw (indexes-cut e.1.0) at e.1.1 },
-      λ good. (good.ascending, (good.cuttable, rw (indexes-cut good.cuttable) good.below)),
     )

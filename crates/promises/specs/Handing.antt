@@ -3,8 +3,8 @@
 use Rattle.std.specs.Prelude.{◌≡◌, refl, List, ℕ, ◌+◌, ◌≤◌, length, take, drop}
 use Rattle.rules.specs.Runs.{one_run, one_answer}
 use Rattle.rules.specs.Runs.Handed.{handed}
-use Rattle.runs_read.proofs.handing.one_run.Kinds as one-run·kinds
-use Rattle.runs_read.proofs.handing.one_run.Reads as one-run·reads
+use Rattle.runs_read.proofs.handing.one_run.Kinds as one_run_kinds
+use Rattle.runs_read.proofs.handing.one_run.Reads as one_run_reads
 use Rattle.promises.specs.OneRun.{same-told, on_page}
 use Rattle.promises.specs.Calls.{Every}
 
@@ -20,7 +20,7 @@ handed_part w n covered page at contract =
     record { part_is = cc (same-told w n covered page at refl); lies = on_page w n covered page at refl }
 
 -- over the function's own contract
-pub one-run : Every 2 one-run·kinds.ps one-run·kinds.r one-run·reads.Learnt
+pub one-run : Every 2 one_run_kinds.ps one_run_kinds.r one_run_reads.Learnt
     (λ κs a r e. let x = one_answer a.1.1.0 a.1.1.1.0 a.1.1.1.1.0 a.0.now a.1.0 in
     PartOf a.0.now x.body_at x.body_len r.now)
 one-run κs a r e contract = handed_part _ _ _ _ _ contract

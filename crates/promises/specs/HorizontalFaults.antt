@@ -1,6 +1,6 @@
 -- When a bare horizontal page has no fault, in plain conditions.
 use Rattle.std.specs.Prelude.{◌≡◌, refl, Bool, true, false, List, ◌↔◌, ℕ, zero, suc, ◌+◌, ◌-◌, ◌*◌, ◌≤◌, ◌<◌, ltb, length}
-use Rattle.std.proofs.Math.Logic.{Iff·trans}
+use Rattle.std.proofs.Math.Logic.Iff
 use Rattle.std.proofs.Common.{arith, ltb-true, ltb-false}
 use Rattle.rules.specs.Bits.{ceil, bit_at, piece, field}
 use Rattle.rules.specs.Bits.Order.{low_first}
@@ -64,7 +64,7 @@ module _ (page : List ℕ) (w n : ℕ) where
   pub page-exact : page_fault low_first page w n ≡ 0 ↔ Exact page w n
   unfolding page_fault
   page-exact =
-      Iff·trans
+      Iff.trans
       (neither _ _ (not-below _ _ 5 (λ e. omega arith))
       (neither _ _ (not-below _ _ 6 (λ e. omega arith)) (not-below _ _ 7 (λ e. omega arith))))
-      (Iff·trans (as_many (length page) (page_bytes w n) (unused low_first page w n)) exact)
+      (Iff.trans (as_many (length page) (page_bytes w n) (unused low_first page w n)) exact)

@@ -1,7 +1,7 @@
 -- When a listed fault is not there, in plain conditions: the faults of several layouts.
 use Rattle.std.specs.Prelude.{◌≡◌, Bool, false, not, List, ◌↔◌, ℕ, ◌≤◌, ltb, eqb}
 use Rattle.std.proofs.Common.{ap, arith, ltb-false, le-ltb, eqb-true, eq-eqb}
-use Rattle.std.proofs.Math.Logic.{Iff·and, Iff·trans}
+use Rattle.std.proofs.Math.Logic.Iff
 use Rattle.std.proofs.lemmas.Bool.{not-false}
 use Rattle.rules.specs.Bits.{ceil}
 use Rattle.rules.specs.Answer.{faulty, ◌then◌, count_fault, limit_fault, operator_fault, room_fault}
@@ -17,7 +17,7 @@ P and Q = P × Q
 
 -- neither of two faults is there
 pub neither : {P Q : Type 0} (a b : ℕ) → (a ≡ 0 ↔ P) → (b ≡ 0 ↔ Q) → (a then b) ≡ 0 ↔ P and Q
-neither a b p q = Iff·trans (then_zero a b, λ none. rw (then_none a b none.0) none.1) (Iff·and p q)
+neither a b p q = Iff.trans (then_zero a b, λ none. rw (then_none a b none.0) none.1) (Iff.and p q)
 
 -- a fault is not there where its test is false
 pub no_fault : (t : Bool) (code : ℕ) → (code ≡ 0 → ⊥) → faulty t code ≡ 0 ↔ t ≡ false
@@ -25,7 +25,7 @@ no_fault t code some = (not-faulty t code some, λ e. rw e)
 
 -- a fault given where x is below y
 pub not-below : (x y code : ℕ) → (code ≡ 0 → ⊥) → faulty (ltb x y) code ≡ 0 ↔ y ≤ x
-not-below x y code some = Iff·trans (no_fault (ltb x y) code some) (ltb-false x y, le-ltb x y)
+not-below x y code some = Iff.trans (no_fault (ltb x y) code some) (ltb-false x y, le-ltb x y)
 
 -- a test that there is a rest
 pub no_rest : (m : ℕ) → not (eqb m 0) ≡ false ↔ m ≡ 0
@@ -53,7 +53,7 @@ room-enough places need = not-below places need 4 (λ e. omega arith)
 -- 8
 pub entries_fit : (w : ℕ) (xs : List ℕ) → large_fault w xs ≡ 0 ↔ Small w xs
 unfolding large_fault
-entries_fit w xs = Iff·trans (no_fault (any_large w xs) 8 (λ e. omega arith)) (small_of w xs, large_of w xs)
+entries_fit w xs = Iff.trans (no_fault (any_large w xs) 8 (λ e. omega arith)) (small_of w xs, large_of w xs)
 
 -- when a call finds no fault, over the faults of the arguments' limits, of the page and of the entries, and what
 -- their absence says

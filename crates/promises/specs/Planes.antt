@@ -20,13 +20,13 @@ use Rattle.compare.specs.Band.{band_of, bands, least, greatest}
 use Rattle.compare.specs.Operators.{same_row, band-known, holds-band}
 use Rattle.compare.specs.declared.bands.Band.{Band}
 use Rattle.compare.specs.declared.bands.Comparison.TheVariants.{Of}
-use Rattle.vertical_compare.specs.Alike.{band-alike}
+use Rattle.vertical_planes.specs.Alike.{band-alike}
 use Rattle.vertical_compare.specs.Lanes.{lane-fits}
-use Rattle.vertical_compare.specs.Standing.{band_compared}
-use Rattle.vertical_compare.proofs.groups.compare.Kinds as compare·kinds
-use Rattle.vertical_compare.proofs.groups.compare.Reads as compare·reads
-use Rattle.vertical_compare.proofs.four.compare_four.Kinds as compare-four·kinds
-use Rattle.vertical_compare.proofs.four.compare_four.Reads as compare-four·reads
+use Rattle.vertical_planes.specs.Standing.{band_compared}
+use Rattle.vertical_planes.proofs.groups.compare.Kinds as compare_kinds
+use Rattle.vertical_planes.proofs.groups.compare.Reads as compare_reads
+use Rattle.vertical_planes.proofs.four.compare_four.Kinds as compare_four_kinds
+use Rattle.vertical_planes.proofs.four.compare_four.Reads as compare_four_reads
 use Rattle.promises.specs.Calls.{Every}
 
 -- ---- an operator's constants are the ends of its band that count
@@ -76,12 +76,12 @@ module _ (group : List ℕ) (few : length group ≤ 32) where
 
 -- ---- whatever a call was given: the group's planes, and a band
 
-pub group_compared : Every 3 compare·kinds.ps compare·kinds.r compare·reads.Learnt (λ κs g r e.
+pub group_compared : Every 3 compare_kinds.ps compare_kinds.r compare_reads.Learnt (λ κs g r e.
     (op : ℕ) (a b : ℤ) → band_of op a b ≡ Of g.1.0 → length g.0.now ≤ 32
     → r ≡ compared g.0.now op a b)
 group_compared κs g r e contract op a b known few = contract ∙ by-band g.0.now few op a b g.1.0 known
 
-pub four_compared_lem : Every 6 compare-four·kinds.ps compare-four·kinds.r compare-four·reads.Learnt (λ κs g r e.
+pub four_compared_lem : Every 6 compare_four_kinds.ps compare_four_kinds.r compare_four_reads.Learnt (λ κs g r e.
     (op : ℕ) (a b : ℤ) → band_of op a b ≡ Of g.1.1.1.1.0
     → length g.0.now ≤ 32 → length g.1.0.now ≤ 32
     → length g.1.1.0.now ≤ 32 → length g.1.1.1.0.now ≤ 32
@@ -113,8 +113,8 @@ alike g h size few op a b band known same =
     ∙ by-band g few op a b band known
 
 -- so two calls with one band, whatever the planes hold that the first did not take
-pub alike_called : Every 3 compare·kinds.ps compare·kinds.r compare·reads.Learnt (λ κs g r e.
-    Every 3 compare·kinds.ps compare·kinds.r compare·reads.Learnt (λ κs' h s e'.
+pub alike_called : Every 3 compare_kinds.ps compare_kinds.r compare_reads.Learnt (λ κs g r e.
+    Every 3 compare_kinds.ps compare_kinds.r compare_reads.Learnt (λ κs' h s e'.
     h.1.0 ≡ g.1.0 → length g.0.now ≡ length h.0.now
     → take r.taken g.0.now ≡ take r.taken h.0.now → s ≡ r))
 alike_called κs g r e contract κs' h s e' contract' band size same =

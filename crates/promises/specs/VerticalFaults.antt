@@ -1,6 +1,6 @@
 -- When a column of bit planes has no fault, in plain conditions.
 use Rattle.std.specs.Prelude.{◌≡◌, false, List, ◌↔◌, ℕ, ◌+◌, ◌-◌, ◌*◌, ◌≤◌, ◌<◌, ltb, length}
-use Rattle.std.proofs.Math.Logic.{Iff·trans}
+use Rattle.std.proofs.Math.Logic.Iff
 use Rattle.std.proofs.Common.{arith, le-ltb}
 use Rattle.rules.specs.Bits.{ceil}
 use Rattle.rules.specs.Vertical.{page_words, entry, unused, page_fault}
@@ -34,7 +34,7 @@ module _ (words : List ℕ) (w n : ℕ) where
   pub column-exact : page_fault words w n ≡ 0 ↔ Exact words w n
   unfolding page_fault
   column-exact =
-      Iff·trans
+      Iff.trans
       (neither _ _ (not-below _ _ 5 (λ e. omega arith))
       (neither _ _ (not-below _ _ 6 (λ e. omega arith)) (no_fault _ 7 (λ e. omega arith))))
-      (Iff·trans (as_many (length words) (page_words w n)) exact)
+      (Iff.trans (as_many (length words) (page_words w n)) exact)

@@ -145,7 +145,7 @@ module _ (Named : ℕ → Type 0) (none : Named 0) where
       runs w zero (suc left) page at = five
       runs w (suc turns) zero page at = stream_end (ltb at (length page))
       runs w (suc turns) (suc left) page at =
-          run-first w (suc left) page at _ (λ l next. runs w turns l page next) (run_at w (suc left) page at)
+          run-first w (suc left) page at (λ l next. read_at w turns l page next) (λ l next. runs w turns l page next) (run_at w (suc left) page at)
           (run w (suc left) page (number_at 32 page at))
 
       pub stream : (w n : ℕ) (page : List ℕ) → Named (stream_fault (read w n page))
@@ -210,7 +210,7 @@ module _ (Named : ℕ → Type 0) (none : Named 0) where
     blocks W size minis (suc turns) zero page at = blocks_end (ltb at (length page))
     blocks W size minis (suc turns) (suc left) page at =
         let need : ℕ = needed minis (size / minis) (suc left) in
-        block-first size minis (suc left) page _ (λ l next. blocks W size minis turns l page next)
+        block-first size minis (suc left) page (λ l next. blocks_at W size minis turns l page next) (λ l next. blocks W size minis turns l page next)
         (block_at W minis need (size / minis) page at) (block W minis need (size / minis) page at)
 
     pub delta-page : Named 12 → Named 13 → (W n : ℕ) (page : List ℕ) → Named (page_fault (Delta.read W n page))

@@ -1,5 +1,5 @@
 -- The header of a run: where none was read, and that of a plain run.
-use Rattle.std.proofs.Common.{⊎_elim, sym, ◌∙◌, arith, length-take-le, ltb-true, ltb-false}
+use Rattle.std.proofs.Common.{⊎_elim, inl, inr, sym, ◌∙◌, arith, length-take-le, ltb-true, ltb-false}
 use Rattle.std.specs.Prelude.{◌≡◌, refl, Bool, true, false, cond, List, [], ◌∷◌, ℕ, ◌+◌, ◌-◌, ◌<◌, ◌≤◌, ltb, length, take, get_or}
 use Rattle.std.proofs.Math.Path.{ap}
 use Rattle.std.proofs.Math.Seq.{get_or-take}
@@ -20,6 +20,12 @@ pub unread : (w left : ℕ) (page : List ℕ) (n : Number) → OneOf (1 ∷ 2 �
 unread w left page (Read h next) tag = absurd (⊎_elim (λ e. omega arith) (λ e. omega arith) tag)
 unread w left page Ended tag = refl
 unread w left page Beyond tag = refl
+
+-- what is no number read is one of the two refusals
+pub not_read : (n : Number) → ((h next : ℕ) → n ≡ Read h next → ⊥) → OneOf (1 ∷ 2 ∷ []) (tag_of the_type n)
+not_read (Read h next) none = absurd (none h next refl)
+not_read Ended none = inl refl
+not_read Beyond none = inr refl
 
 -- a number of seven bits, which is one byte, with four bytes or more behind it
 abbrev pub plain_header : List ℕ → ℕ → Number

@@ -9,8 +9,11 @@ use scan_day::seconds::{entries_of, needed, start_of};
 use scan_page::answering;
 use scan_page::layouts::Question;
 use scan_question::options::Asked;
+use scan_says::system::System;
 use scan_says::{Sentence, tell};
 use scan_stretches::pages::{Listing, begun};
+use std::env::Env;
+use std::fs::Files;
 use words::counts::min;
 
 // Bytes of the bitmaps of 1,024 full pages, more than can be named.
@@ -23,7 +26,8 @@ fn room() -> [u8; BITMAP]
 }
 
 // All pages answered, their bitmap kept, and the answer told.
-pub fn answered(
+pub fn answered<R: Env + Files>(
+    system: &System<R>,
     q: Question,
     asked: Asked,
     entries: u32,
@@ -40,6 +44,7 @@ pub fn answered(
         entries: entries,
     };
     let after = walked(
+        system,
         nothing_passed(asked, entries),
         q,
         column,
@@ -51,30 +56,30 @@ pub fn answered(
     );
     let passed = after.passed;
     let span = span(column, files.len());
-    let listing = stretches::ended(after.stretches, span);
-    keeping::kept(asked, entries as usize, first, files, &bitmap);
+    let listing = stretches::ended(system, after.stretches, span);
+    keeping::kept(system, asked, entries as usize, first, files, &bitmap);
     if asked.spans {
-        telling::summed_up_in_stretches(span, passed, listing.going);
+        telling::summed_up_in_stretches(system, span, passed, listing.going);
     } else if asked.numbers {
-        telling::summed_up(span, passed);
+        telling::summed_up(system, span, passed);
     } else {
-        telling::drawn(span, passed, &answered, &selected);
+        telling::drawn(system, span, passed, &answered, &selected);
     }
-    told_missing(span, passed.lost, files.len(), entries);
+    told_missing(system, span, passed.lost, files.len(), entries);
 }
 
 // What is not in the answer: pages that were lost, and seconds for which none is named.
-fn told_missing(span: Span, lost: usize, pages: usize, entries: u32) {
+fn told_missing<R: Env>(system: &System<R>, span: Span, lost: usize, pages: usize, entries: u32) {
     if 0 < lost {
-        tell(Sentence::Lost(lost));
+        tell(system, Sentence::Lost(lost));
     }
     if pages < needed(entries as usize) {
-        tell(Sentence::Missing(span.day, span.shown));
+        tell(system, Sentence::Missing(span.day, span.shown));
     }
 }
 
 // The day and the second of a column's first entry, and how many entries it has.
-#[derive(Drop)]
+#[derive(Clone, Copy)]
 struct Column {
     day: u32,
     from: u32,
@@ -114,7 +119,8 @@ fn nothing_passed(asked: Asked, entries: u32) -> SoFar {
 }
 
 // The pages one after the other.
-fn walked(
+fn walked<R: Env + Files>(
+    system: &System<R>,
     before: SoFar,
     q: Question,
     column: Column,
@@ -128,7 +134,7 @@ fn walked(
     let mut k: usize = 0;
     while k < files.len() {
         so_far = page_answered(
-            so_far, q, column, files[k], k, dictionary, bitmap, selected, answered,
+            system, so_far, q, column, files[k], k, dictionary, bitmap, selected, answered,
         );
         k += 1;
     }
@@ -136,7 +142,8 @@ fn walked(
 }
 
 // Page k, whose file the word at `at` names.
-fn page_answered(
+fn page_answered<R: Env + Files>(
+    system: &System<R>,
     so_far: SoFar,
     q: Question,
     column: Column,
@@ -151,8 +158,8 @@ fn page_answered(
     let start = start_of(k);
     let first = column.from as usize + start;
     let place = min(start / 8, bitmap.len());
-    if !answering::answered(q, dictionary, at, n, &mut bitmap[place..]) {
-        return page_lost(so_far, column.day, first, first + n);
+    if !answering::answered(system, q, dictionary, at, n, &mut bitmap[place..]) {
+        return page_lost(system, so_far, column.day, first, first + n);
     }
     let passed = page_passed(
         so_far.passed,
@@ -163,6 +170,7 @@ fn page_answered(
         answered,
     );
     page_listed(
+        system,
         so_far,
         passed,
         column.day,
@@ -174,19 +182,26 @@ fn page_answered(
 }
 
 // Seconds from one to before another are those of a page that was not answered.
-fn page_lost(so_far: SoFar, day: u32, start: usize, end: usize) -> SoFar {
+fn page_lost<R: Env>(
+    system: &System<R>,
+    so_far: SoFar,
+    day: u32,
+    start: usize,
+    end: usize,
+) -> SoFar {
     let passed = so_far.passed;
     let listing = so_far.stretches;
     SoFar {
         passed: passed.loses(),
         has_numbers: so_far.has_numbers,
         has_stretches: so_far.has_stretches,
-        stretches: stretches::page_lost(listing, day, start, end),
+        stretches: stretches::page_lost(system, listing, day, start, end),
     }
 }
 
 // The n entries of an answered page from entry `start` on, which is second `first`.
-fn page_listed(
+fn page_listed<R: Env>(
+    system: &System<R>,
     so_far: SoFar,
     passed: Passed,
     day: u32,
@@ -197,10 +212,10 @@ fn page_listed(
 ) -> SoFar
     requires { (start ≤ 16777216) × (first < 1099511627776) × (n ≤ 16384) }
 {
-    let has_numbers = so_far.has_numbers && listed(bitmap, start, start + n);
+    let has_numbers = so_far.has_numbers && listed(system, bitmap, start, start + n);
     let before = so_far.stretches;
     let after = if so_far.has_stretches {
-        stretches::page_listed(before, day, first, n, bitmap)
+        stretches::page_listed(system, before, day, first, n, bitmap)
     } else {
         before
     };

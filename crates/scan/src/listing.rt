@@ -1,7 +1,10 @@
 // The numbers of the selected seconds, a line each, on standard output.
 use bitmaps::is_set;
 use lines::Line;
+use lines::streams::Streams;
+use scan_says::system::System;
 use scan_says::{Sentence, tell};
+use std::env::Env;
 
 // Numbers that are not written yet, ten at most, so that one call of the system writes them.
 #[derive(Drop)]
@@ -11,7 +14,7 @@ struct Numbers {
 }
 
 // Those of a page, from entry `start` to before `end`; false where they cannot be written, which is said.
-pub fn listed(bitmap: &[u8], start: usize, end: usize) -> bool {
+pub fn listed<R: Env>(system: &System<R>, bitmap: &[u8], start: usize, end: usize) -> bool {
     let mut numbers = Numbers {
         text: Line::new(),
         held: 0,
@@ -19,18 +22,18 @@ pub fn listed(bitmap: &[u8], start: usize, end: usize) -> bool {
     let mut entry = start;
     while entry < end {
         if is_set(bitmap, entry - start) {
-            numbers = with_one(numbers, entry);
+            numbers = with_one(&system.streams, numbers, entry);
         }
         entry += 1;
     }
-    let last = written(numbers);
+    let last = written(&system.streams, numbers);
     if last.lost {
-        return tell(Sentence::Unwritten);
+        return tell(system, Sentence::Unwritten);
     }
     true
 }
 
-fn with_one(numbers: Numbers, entry: usize) -> Numbers {
+fn with_one(streams: &Streams, numbers: Numbers, entry: usize) -> Numbers {
     let text = numbers.text;
     let text = if numbers.held == 0 {
         text
@@ -45,16 +48,16 @@ fn with_one(numbers: Numbers, entry: usize) -> Numbers {
         };
     }
     Numbers {
-        text: text.end(),
+        text: text.end(streams),
         held: 0,
     }
 }
 
 // The next line, empty.
-fn written(numbers: Numbers) -> Line {
+fn written(streams: &Streams, numbers: Numbers) -> Line {
     let text = numbers.text;
     if numbers.held == 0 {
         return text;
     }
-    text.end()
+    text.end(streams)
 }

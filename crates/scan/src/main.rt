@@ -9,34 +9,41 @@ mod same_file;
 mod stretches;
 mod telling;
 
+use lines::streams::Streams;
+use scan_says::system::System;
 use scan_says::{Sentence, first_word, help, tell, version};
 use scan_words::names::{NOTHING, VERSION, instead};
+use std::env::Env;
 
-fn main() {
-    let first = first_word();
-    if os::arg_count() <= first {
-        tell(Sentence::Usage);
+fn main(rt: HostRuntime) {
+    let system = System {
+        rt: rt,
+        streams: Streams::new(rt.stdout(), rt.stderr()),
+    };
+    let first = first_word(&system);
+    if system.arg_count() <= first {
+        tell(&system, Sentence::Usage);
         return;
     }
-    let plea = asked_instead(first);
+    let plea = asked_instead(&system, first);
     match plea {
-        NOTHING => asking::asked(),
+        NOTHING => asking::asked(&system),
         VERSION => {
-            version();
+            version(&system);
         }
         _ => {
-            help();
+            help(&system);
         }
     }
 }
 
 // The first word that asks for something else than a scan, of those before `--`.
-fn asked_instead(first: usize) -> u32 {
-    let all = os::arg_count();
+fn asked_instead<R: Env>(system: &System<R>, first: usize) -> u32 {
+    let all = system.arg_count();
     let mut at = first;
     while at < all {
         let mut word = io::buffer();
-        let n = os::arg(at, &mut word);
+        let n = system.arg(at, &mut word);
         let plea = instead(&word[..n]);
         if plea != NOTHING {
             return plea;

@@ -16,7 +16,7 @@ pub const DAYS: usize = 195;
 
 pub const CELLS: usize = 14040;
 
-#[derive(Drop)]
+#[derive(Clone, Copy)]
 pub struct Passed {
     // seconds of pages that were answered
     pub read: usize,

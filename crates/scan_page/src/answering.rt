@@ -4,28 +4,38 @@ ghost use Rattle.scan_page.specs.Answered.{Answered};
 use crate::layouts;
 use crate::layouts::Question;
 use scan_question::files;
+use scan_says::system::System;
 use scan_says::{Sentence, tell};
 use scan_words::names::PLANES;
+use std::env::Env;
+use std::fs::Files;
 
 // No accepted page has as many bytes.
 const BYTES: usize = 163840;
 
 // The page's bitmap; false where the page is refused or cannot be read, which is said.
-pub fn answered(q: Question, dictionary: &[u8], at: usize, n: usize, bitmap: &mut [u8]) -> bool
+pub fn answered<R: Env + Files>(
+    system: &System<R>,
+    q: Question,
+    dictionary: &[u8],
+    at: usize,
+    n: usize,
+    bitmap: &mut [u8],
+) -> bool
     ensures { Answered q dictionary.now n bitmap.old result bitmap.new }
 {
     let mut page = [0u8; BYTES];
-    let file = files::read(at, &mut page);
+    let file = files::read(system, at, &mut page);
     if !file.is_whole {
         return false;
     }
     let size = file.bytes;
     if q.layout == PLANES && size % 8 != 0 {
-        return tell(Sentence::NoWords(at));
+        return tell(system, Sentence::NoWords(at));
     }
     let answer = layouts::scan(q, dictionary, &page[..size], n, bitmap);
     if answer.code != 0 {
-        return tell(Sentence::Refused(at, answer.code));
+        return tell(system, Sentence::Refused(at, answer.code));
     }
     true
 }

@@ -11,7 +11,7 @@ use words::counts::min;
 use words::loads::load_any;
 
 // What every page of a column is asked: how it is laid out, and the comparison.
-#[derive(Drop)]
+#[derive(Clone, Copy)]
 pub struct Question {
     pub layout: u32,
     // the entries' width, where the layout needs one

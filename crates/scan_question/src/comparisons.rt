@@ -2,9 +2,12 @@
 ghost use Rattle.std.specs.Prelude.{◌≡◌, ◌<◌, ◌≤◌, get_or};
 ghost use Rattle.scan_question.specs.Comparisons.{Understood};
 
+use scan_says::system::System;
 use scan_says::{Sentence, tell};
 use scan_words::names::{BETWEEN, NO_OPERATOR, operator, operator_number};
 use scan_words::numbers::{Constant, read_constant};
+use std::env::Env;
+use std::fs::{Files, OpenOptions};
 
 // Operator number and constants, and how many words they took: 0 where there is no comparison.
 #[derive(Drop)]
@@ -16,10 +19,10 @@ pub struct Comparison {
 }
 
 // No comparison, and why.
-fn none(sentence: Sentence) -> Comparison
+fn none<R: Env>(system: &System<R>, sentence: Sentence) -> Comparison
     ensures { Understood 0 result }
 {
-    tell(sentence);
+    tell(system, sentence);
     Comparison {
         op: 0,
         a: 0,
@@ -38,26 +41,26 @@ pub fn place(words: &[usize], k: usize) -> usize
     words[k]
 }
 
-fn named_at(at: usize) -> u32 {
+fn named_at<R: Env>(system: &System<R>, at: usize) -> u32 {
     let mut word = io::buffer();
-    let n = os::arg(at, &mut word);
+    let n = system.arg(at, &mut word);
     operator(&word[..n])
 }
 
-fn numbered_at(at: usize) -> u32 {
+fn numbered_at<R: Env>(system: &System<R>, at: usize) -> u32 {
     let mut word = io::buffer();
-    let n = os::arg(at, &mut word);
+    let n = system.arg(at, &mut word);
     operator_number(&word[..n])
 }
 
-fn constant_at(at: usize) -> Constant {
+fn constant_at<R: Env>(system: &System<R>, at: usize) -> Constant {
     let mut word = io::buffer();
-    let n = os::arg(at, &mut word);
+    let n = system.arg(at, &mut word);
     read_constant(&word[..n])
 }
 
-fn is_constant(at: usize) -> bool {
-    let c = constant_at(at);
+fn is_constant<R: Env>(system: &System<R>, at: usize) -> bool {
+    let c = constant_at(system, at);
     match c {
         Constant::Is(_) => true,
         Constant::Nothing => false,
@@ -65,23 +68,20 @@ fn is_constant(at: usize) -> bool {
 }
 
 // Can the file that a word names be opened.
-fn is_there(at: usize) -> bool {
+fn is_there<R: Env + Files>(system: &System<R>, at: usize) -> bool {
     let mut name = io::buffer();
-    let n = os::arg(at, &mut name);
-    let fd = os::open_read(&name[..n]);
-    if fd < 0 {
-        return false;
-    }
-    libc::close(fd);
-    true
+    let n = system.arg(at, &mut name);
+    system
+        .open(OpenOptions::new().read(true), &name[..n])
+        .is_ok()
 }
 
-fn with_one(op: u32, first: usize) -> Comparison
+fn with_one<R: Env>(system: &System<R>, op: u32, first: usize) -> Comparison
     requires { op < 6 }
     ensures { Understood 2 result }
 {
-    let Constant::Is(a) = constant_at(first) else {
-        return none(Sentence::NoConstant(first));
+    let Constant::Is(a) = constant_at(system, first) else {
+        return none(system, Sentence::NoConstant(first));
     };
     Comparison {
         op: op,
@@ -91,15 +91,15 @@ fn with_one(op: u32, first: usize) -> Comparison
     }
 }
 
-fn with_two(op: u32, first: usize, second: usize) -> Comparison
+fn with_two<R: Env>(system: &System<R>, op: u32, first: usize, second: usize) -> Comparison
     requires { (6 ≤ op) × (op < 8) }
     ensures { Understood 3 result }
 {
-    let Constant::Is(a) = constant_at(first) else {
-        return none(Sentence::NoConstant(first));
+    let Constant::Is(a) = constant_at(system, first) else {
+        return none(system, Sentence::NoConstant(first));
     };
-    let Constant::Is(b) = constant_at(second) else {
-        return none(Sentence::NoConstant(second));
+    let Constant::Is(b) = constant_at(system, second) else {
+        return none(system, Sentence::NoConstant(second));
     };
     Comparison {
         op: op,
@@ -110,66 +110,81 @@ fn with_two(op: u32, first: usize, second: usize) -> Comparison
 }
 
 // The last two of m words, or their last three.
-pub fn at_end(words: &[usize], m: usize) -> Comparison
+pub fn at_end<R: Env + Files>(system: &System<R>, words: &[usize], m: usize) -> Comparison
     ensures { Understood m result }
 {
     if m < 2 {
-        return none(Sentence::NoComparison);
+        return none(system, Sentence::NoComparison);
     }
     let second = place(words, m - 1);
     let first = place(words, m - 2);
-    let op = named_at(first);
+    let op = named_at(system, first);
     if op < BETWEEN {
-        return with_one(op, second);
+        return with_one(system, op, second);
     }
     if m < 3 {
-        return by_number(0, first, second);
+        return by_number(system, 0, first, second);
     }
-    longer(place(words, m - 3), first, second)
+    longer(system, place(words, m - 3), first, second)
 }
 
 // Three words, of which the second is no operator of one constant by its word.
-fn longer(before: usize, first: usize, second: usize) -> Comparison
+fn longer<R: Env + Files>(
+    system: &System<R>,
+    before: usize,
+    first: usize,
+    second: usize,
+) -> Comparison
     ensures { Understood 3 result }
 {
-    let op = named_at(before);
+    let op = named_at(system, before);
     if op < BETWEEN {
-        return none(Sentence::OneConstant(before));
+        return none(system, Sentence::OneConstant(before));
     }
     if op < NO_OPERATOR {
-        return with_two(op, first, second);
+        return with_two(system, op, first, second);
     }
-    let digit = numbered_at(before);
+    let digit = numbered_at(system, before);
     if BETWEEN <= digit && digit < NO_OPERATOR {
-        return with_two(digit, first, second);
+        return with_two(system, digit, first, second);
     }
-    by_number(before, first, second)
+    by_number(system, before, first, second)
 }
 
 // By its number an operator might be a constant of a mistyped one: what stands before it must then be a
 // file.
-fn by_number(before: usize, first: usize, second: usize) -> Comparison
+fn by_number<R: Env + Files>(
+    system: &System<R>,
+    before: usize,
+    first: usize,
+    second: usize,
+) -> Comparison
     ensures { Understood 2 result }
 {
-    let op = numbered_at(first);
-    if op < BETWEEN && (before == 0 || is_there(before)) {
-        return with_one(op, second);
+    let op = numbered_at(system, first);
+    if op < BETWEEN && (before == 0 || is_there(system, before)) {
+        return with_one(system, op, second);
     }
-    none(wrong(before, first, second))
+    none(system, wrong(system, before, first, second))
 }
 
 // What is wrong with the word that is most likely meant as the operator.
-fn wrong(before: usize, first: usize, second: usize) -> Sentence {
-    if named_at(second) != NO_OPERATOR {
+fn wrong<R: Env + Files>(
+    system: &System<R>,
+    before: usize,
+    first: usize,
+    second: usize,
+) -> Sentence {
+    if named_at(system, second) != NO_OPERATOR {
         return Sentence::BareOperator(second);
     }
-    if named_at(first) != NO_OPERATOR {
+    if named_at(system, first) != NO_OPERATOR {
         return Sentence::TwoConstants(first);
     }
-    if before != 0 && is_constant(first) && !is_there(before) {
+    if before != 0 && is_constant(system, first) && !is_there(system, before) {
         return Sentence::WrongOperator(before);
     }
-    if numbered_at(first) != NO_OPERATOR {
+    if numbered_at(system, first) != NO_OPERATOR {
         return Sentence::TwoConstants(first);
     }
     Sentence::WrongOperator(first)

@@ -1,7 +1,11 @@
 // Files named by arguments.
 ghost use Rattle.io.specs.Counts.{IsPrefixLen};
 
+use scan_says::system::System;
 use scan_says::{Sentence, failed, tell};
+use std::env::Env;
+use std::fs::{Files, OpenOptions};
+use std::io::Read;
 
 // What a file held: how many bytes of it were read, and whether that is all.
 #[derive(Drop)]
@@ -11,37 +15,51 @@ pub struct Contents {
 }
 
 // The bytes of a file, from the first lent place on; where they are not all of it, that is said.
-pub fn read(at: usize, places: &mut [u8]) -> Contents
+pub fn read<R: Env + Files>(system: &System<R>, at: usize, places: &mut [u8]) -> Contents
     ensures { IsPrefixLen result.bytes places.new }
 {
     let mut name = io::buffer();
-    let n = os::arg(at, &mut name);
-    let fd = os::open_read(&name[..n]);
-    if fd < 0 {
-        failed(&name[..n]);
-        return Contents {
-            bytes: 0,
-            is_whole: false,
-        };
-    }
-    let bytes = io::read_full(fd, places);
-    let is_whole = ended(fd, at, &name[..n]);
-    libc::close(fd);
-    Contents {
-        bytes: bytes,
-        is_whole: is_whole,
+    let n = system.arg(at, &mut name);
+    match system.open(OpenOptions::new().read(true), &name[..n]) {
+        Err(error) => {
+            failed(system, &name[..n], error);
+            Contents {
+                bytes: 0,
+                is_whole: false,
+            }
+        }
+        Ok(mut file) => {
+            let bytes = read_full(&mut file, places);
+            let is_whole = ended(system, &mut file, at, &name[..n]);
+            Contents {
+                bytes: bytes,
+                is_whole: is_whole,
+            }
+        }
     }
 }
 
+// Reads until the places are full, the file ends or a read fails: how many bytes that were.
+fn read_full<F: Read>(file: &mut F, places: &mut [u8]) -> usize
+    ensures { IsPrefixLen result places.new }
+{
+    let mut done = 0;
+    while done < places.len() {
+        let n = file.read(&mut places[done..]).unwrap_or(0);
+        if n == 0 {
+            break;
+        }
+        done += n;
+    }
+    done
+}
+
 // Is the file read to its end; if not, that is said.
-fn ended(fd: i32, at: usize, name: &[u8]) -> bool {
+fn ended<R: Env, F: Read>(system: &System<R>, file: &mut F, at: usize, name: &[u8]) -> bool {
     let mut more = [0u8; 1];
-    let got = libc::read(fd, &mut more);
-    if got < 0 {
-        failed(name);
+    match file.read(&mut more) {
+        Ok(0) => true,
+        Ok(_) => tell(system, Sentence::TooLong(at)),
+        Err(error) => failed(system, name, error),
     }
-    if got > 0 {
-        tell(Sentence::TooLong(at));
-    }
-    got == 0
 }

@@ -2,18 +2,20 @@
 ghost use Rattle.std.specs.Prelude.{◌≡◌, ◌≤◌};
 ghost use Rattle.scan_question.specs.Options.{Left};
 
-use bytes::scan::find;
+use scan_says::system::System;
 use scan_says::{Sentence, first_word, tell};
+use scan_words::finding::find;
 use scan_words::names::{
     BITMAP, DAY, ENTRIES, JOIN, LAST, NO_OPTION, NUMBERS, SPANS, START, WIDTH, is_option, option,
 };
 use scan_words::numbers::{Count, read_count};
 use scan_words::times::read_time;
+use std::env::Env;
 
 // At most so many words are taken, the program's name among them.
 pub const MOST: usize = 1024;
 
-#[derive(Drop)]
+#[derive(Clone, Copy)]
 pub struct Asked {
     pub width: u32,
     pub has_width: bool,
@@ -72,10 +74,10 @@ impl Asked {
     }
 
     // Not as it should be, which is said.
-    fn spoiled(mut self, sentence: Sentence) -> Asked
+    fn spoiled<R: Env>(mut self, system: &System<R>, sentence: Sentence) -> Asked
         ensures { result.words ≡ self.words }
     {
-        tell(sentence);
+        tell(system, sentence);
         self.wrong = true;
         self
     }
@@ -112,23 +114,23 @@ impl Asked {
 }
 
 // All words, one after the other.
-pub fn sorted_out(words: &mut [usize]) -> Asked
+pub fn sorted_out<R: Env>(system: &System<R>, words: &mut [usize]) -> Asked
     ensures { Left result.words words.new }
 {
-    let all = os::arg_count();
+    let all = system.arg_count();
     let mut asked = Asked::new();
-    let mut at = first_word();
+    let mut at = first_word(system);
     if MOST - 1 + at < all {
-        return asked.spoiled(Sentence::ManyWords);
+        return asked.spoiled(system, Sentence::ManyWords);
     }
     while at < all {
-        asked = argument(asked, at, words);
+        asked = argument(system, asked, at, words);
         at += 1;
     }
-    finished(asked)
+    finished(system, asked)
 }
 
-fn argument(mut asked: Asked, at: usize, words: &mut [usize]) -> Asked
+fn argument<R: Env>(system: &System<R>, mut asked: Asked, at: usize, words: &mut [usize]) -> Asked
     requires le_at { 1 ≤ at }
     requires left { Left asked.words words.old }
     ensures { Left result.words words.new }
@@ -137,23 +139,22 @@ fn argument(mut asked: Asked, at: usize, words: &mut [usize]) -> Asked
         return asked;
     }
     let mut word = io::buffer();
-    let n = os::arg(at, &mut word);
-    if os::errno() != 0 {
-        return asked.spoiled(Sentence::LongWord(at));
-    }
+    let Ok(n) = system.rt.arg(at, &mut word) else {
+        return asked.spoiled(system, Sentence::LongWord(at));
+    };
     let option = asked.waits;
     if option != NO_OPTION {
         asked.waits = NO_OPTION;
-        return value(asked, option, at, 0, &word[..n]);
+        return value(system, asked, option, at, 0, &word[..n]);
     }
     if asked.is_ended || !is_option(&word[..n]) {
         return asked.word(at, words);
     }
-    opened(asked, at, &word[..n])
+    opened(system, asked, at, &word[..n])
 }
 
 // A word that opens an option: alone, or with `=` and what the option takes behind it.
-fn opened(mut asked: Asked, at: usize, word: &[u8]) -> Asked
+fn opened<R: Env>(system: &System<R>, mut asked: Asked, at: usize, word: &[u8]) -> Asked
     ensures { result.words ≡ asked.words }
 {
     if word.len() == 2 {
@@ -163,13 +164,13 @@ fn opened(mut asked: Asked, at: usize, word: &[u8]) -> Asked
     let end = find(word, 0, word.len(), b'=');
     let named = option(&word[0..end]);
     if named == NO_OPTION {
-        return asked.spoiled(Sentence::UnknownOption(at));
+        return asked.spoiled(system, Sentence::UnknownOption(at));
     }
     if asked.has(named) {
-        return asked.spoiled(Sentence::Twice(at));
+        return asked.spoiled(system, Sentence::Twice(at));
     }
     if end < word.len() {
-        return value(asked, named, at, end + 1, &word[end + 1..]);
+        return value(system, asked, named, at, end + 1, &word[end + 1..]);
     }
     match named {
         NUMBERS => asked.numbers = true,
@@ -180,48 +181,61 @@ fn opened(mut asked: Asked, at: usize, word: &[u8]) -> Asked
 }
 
 // What an option was given: word `at` from byte `from` on.
-fn value(asked: Asked, option: u32, at: usize, from: usize, word: &[u8]) -> Asked
+fn value<R: Env>(
+    system: &System<R>,
+    asked: Asked,
+    option: u32,
+    at: usize,
+    from: usize,
+    word: &[u8],
+) -> Asked
     ensures { result.words ≡ asked.words }
 {
     match option {
-        BITMAP => file(asked, at, from, word.len()),
-        NUMBERS | SPANS => asked.spoiled(Sentence::Takes(at, option)),
-        START => time(asked, at, word),
-        _ => number(asked, option, at, word),
+        BITMAP => file(system, asked, at, from, word.len()),
+        NUMBERS | SPANS => asked.spoiled(system, Sentence::Takes(at, option)),
+        START => time(system, asked, at, word),
+        _ => number(system, asked, option, at, word),
     }
 }
 
 // The bitmap file's name, which has so many bytes.
-fn file(mut asked: Asked, at: usize, from: usize, bytes: usize) -> Asked
+fn file<R: Env>(system: &System<R>, mut asked: Asked, at: usize, from: usize, bytes: usize) -> Asked
     ensures { result.words ≡ asked.words }
 {
     if bytes == 0 {
-        return asked.spoiled(Sentence::Takes(0, BITMAP));
+        return asked.spoiled(system, Sentence::Takes(0, BITMAP));
     }
     asked.bitmap = at;
     asked.bitmap_from = from;
     asked
 }
 
-fn time(mut asked: Asked, at: usize, word: &[u8]) -> Asked
+fn time<R: Env>(system: &System<R>, mut asked: Asked, at: usize, word: &[u8]) -> Asked
     ensures { result.words ≡ asked.words }
 {
     let Count::Is(second) = read_time(word) else {
-        return asked.spoiled(Sentence::Takes(at, START));
+        return asked.spoiled(system, Sentence::Takes(at, START));
     };
     asked.start = second;
     asked.has_start = true;
     asked
 }
 
-fn number(mut asked: Asked, option: u32, at: usize, word: &[u8]) -> Asked
+fn number<R: Env>(
+    system: &System<R>,
+    mut asked: Asked,
+    option: u32,
+    at: usize,
+    word: &[u8],
+) -> Asked
     ensures { result.words ≡ asked.words }
 {
     let Count::Is(n) = read_count(word) else {
-        return asked.spoiled(Sentence::Takes(at, option));
+        return asked.spoiled(system, Sentence::Takes(at, option));
     };
     if !is_within(option, n) {
-        return asked.spoiled(Sentence::Takes(at, option));
+        return asked.spoiled(system, Sentence::Takes(at, option));
     }
     match option {
         WIDTH => {
@@ -257,7 +271,7 @@ fn is_within(option: u32, n: u32) -> bool {
 }
 
 // No option may be left without what it takes, the entries are told once, and one list is written.
-fn finished(asked: Asked) -> Asked
+fn finished<R: Env>(system: &System<R>, asked: Asked) -> Asked
     ensures { result.words ≡ asked.words }
 {
     if asked.wrong {
@@ -265,16 +279,16 @@ fn finished(asked: Asked) -> Asked
     }
     let option = asked.waits;
     if option != NO_OPTION {
-        return asked.spoiled(Sentence::Takes(0, option));
+        return asked.spoiled(system, Sentence::Takes(0, option));
     }
     if asked.has_entries && asked.has_last {
-        return asked.spoiled(Sentence::TwoCounts);
+        return asked.spoiled(system, Sentence::TwoCounts);
     }
     if asked.numbers && asked.spans {
-        return asked.spoiled(Sentence::TwoLists);
+        return asked.spoiled(system, Sentence::TwoLists);
     }
     if asked.join != 0 && !asked.spans {
-        return asked.spoiled(Sentence::LoneJoin);
+        return asked.spoiled(system, Sentence::LoneJoin);
     }
     asked
 }

@@ -2,14 +2,21 @@
 // version on standard error.
 #![tactic(auto)]
 
+pub mod reasons;
+pub mod system;
+
 ghost use Rattle.std.specs.Prelude.{◌≡◌, false, ◌≤◌};
 
 use check::same;
-use libc::{STDERR_FILENO, STDOUT_FILENO};
 use lines::Line;
+use lines::streams::{Stream, Streams};
+use reasons::fail;
 use scan_day::clocks::clock;
 use scan_day::seconds;
 use scan_words::names::{BITMAP, DAY, ENTRIES, JOIN, LAST, NUMBERS, SPANS, WIDTH};
+use std::env::Env;
+use std::io::Error;
+use system::System;
 
 // Where nothing else is said, a number is a word's place on the command line.
 #[derive(Drop)]
@@ -57,11 +64,11 @@ pub enum Sentence {
 
 // The first word that was typed stands here: behind the word by which whoever runs the program asks for its
 // status, which is on descriptor 3, since the program itself ends with 0.
-pub fn first_word() -> usize
+pub fn first_word<R: Env>(system: &System<R>) -> usize
     ensures { (1 ≤ result) × (result ≤ 2) }
 {
     let mut word = io::buffer();
-    let n = os::arg(1, &mut word);
+    let n = system.arg(1, &mut word);
     if same(&word[..n], b"--status-fd=3") {
         return 2;
     }
@@ -69,167 +76,207 @@ pub fn first_word() -> usize
 }
 
 // A refusal or an error was said.
-fn noted() {
-    if first_word() == 2 {
+fn noted<R: Env>(system: &System<R>) {
+    if first_word(system) == 2 {
         io::write_all(3, b"1");
     }
 }
 
 // Says it; the answer is no, for whoever has to give up.
-pub fn tell(sentence: Sentence) -> bool
+pub fn tell<R: Env>(system: &System<R>, sentence: Sentence) -> bool
     ensures { result ≡ false }
 {
+    let streams = &system.streams;
     match sentence {
-        Sentence::Unwritten => os::fail(b"scan: standard output cannot be written"),
+        Sentence::Unwritten => fail(
+            streams,
+            b"scan: standard output cannot be written",
+            streams.failure(),
+        ),
         Sentence::Usage => {
-            usage(STDERR_FILENO);
+            usage(streams, Stream::Errors);
         }
-        Sentence::ManyWords => say(b"scan: at most 1023 words are taken after the program's name."),
-        Sentence::LongWord(at) => long_word(at),
+        Sentence::ManyWords => say(
+            streams,
+            b"scan: at most 1023 words are taken after the program's name.",
+        ),
+        Sentence::LongWord(at) => long_word(system, at),
         Sentence::NoLayout => {
-            say(b"scan: no layout: the first word is one of these.");
-            layouts(STDERR_FILENO);
+            say(streams, b"scan: no layout: the first word is one of these.");
+            layouts(streams, Stream::Errors);
         }
         Sentence::WrongLayout(at) => {
-            about(at, b" is no layout: the first word is one of these.");
-            layouts(STDERR_FILENO);
+            about(
+                system,
+                at,
+                b" is no layout: the first word is one of these.",
+            );
+            layouts(streams, Stream::Errors);
         }
-        _ => tell_of_options(sentence),
+        _ => tell_of_options(system, sentence),
     }
-    noted();
+    noted(system);
     false
 }
 
 // What the system says of a name or of what was tried; the answer is no.
-pub fn failed(what: &[u8]) -> bool
+pub fn failed<R: Env>(system: &System<R>, what: &[u8], error: Error) -> bool
     ensures { result ≡ false }
 {
-    os::fail(what);
-    noted();
+    fail(&system.streams, what, Some(error));
+    noted(system);
     false
 }
 
 // How the program is used, on standard output; the answer is no.
-pub fn help() -> bool
+pub fn help<R: Env>(system: &System<R>) -> bool
     ensures { result ≡ false }
 {
-    if usage(STDOUT_FILENO) {
+    if usage(&system.streams, Stream::Output) {
         return false;
     }
-    tell(Sentence::Unwritten)
+    tell(system, Sentence::Unwritten)
 }
 
 // The program's version, on standard output; the answer is no.
-pub fn version() -> bool
+pub fn version<R: Env>(system: &System<R>) -> bool
     ensures { result ≡ false }
 {
-    if io::write_all(STDOUT_FILENO, b"scan 0.4.0\n") {
+    if system.streams.write_all(Stream::Output, b"scan 0.4.0\n") {
         return false;
     }
-    tell(Sentence::Unwritten)
+    tell(system, Sentence::Unwritten)
 }
 
-fn tell_of_options(sentence: Sentence) {
+fn tell_of_options<R: Env>(system: &System<R>, sentence: Sentence) {
+    let streams = &system.streams;
     match sentence {
         Sentence::UnknownOption(at) => {
-            about(at, b" is no option: these are.");
-            options(STDERR_FILENO);
+            about(system, at, b" is no option: these are.");
+            options(streams, Stream::Errors);
         }
         Sentence::Twice(at) => about(
+            system,
             at,
             b": this option was given before: leave one of them out.",
         ),
-        Sentence::Takes(at, option) => takes(at, option),
+        Sentence::Takes(at, option) => takes(system, at, option),
         Sentence::TwoCounts => say(
+            streams,
             b"scan: --entries and --last both say how many entries there are: leave one of them out.",
         ),
         Sentence::TwoLists => say(
+            streams,
             b"scan: --numbers and --spans both write standard output: leave one of them out.",
         ),
         Sentence::LoneJoin => say(
+            streams,
             b"scan: --join closes gaps between the stretches that --spans prints: add --spans.",
         ),
         Sentence::NoWidth => say(
+            streams,
             b"scan: this layout needs the width of its entries: add --width and 0 to 32.",
         ),
         Sentence::OwnWidths => say(
+            streams,
             b"scan: --width is for horizontal, planes and runs: pages of this layout say their widths themselves.",
         ),
-        _ => tell_of_comparison(sentence),
+        _ => tell_of_comparison(system, sentence),
     }
 }
 
-fn tell_of_comparison(sentence: Sentence) {
+fn tell_of_comparison<R: Env>(system: &System<R>, sentence: Sentence) {
+    let streams = &system.streams;
     match sentence {
         Sentence::NoComparison => {
-            say(b"scan: name the page files and then the comparison, as in: between 110 420");
-            operators(STDERR_FILENO);
+            say(
+                streams,
+                b"scan: name the page files and then the comparison, as in: between 110 420",
+            );
+            operators(streams, Stream::Errors);
         }
         Sentence::WrongOperator(at) => about_operator(
+            system,
             at,
             b" is no operator: the words end with one and its constants, as in: between 110 420",
         ),
-        Sentence::BareOperator(at) => about_operator(at, b" needs its constant behind it."),
+        Sentence::BareOperator(at) => about_operator(system, at, b" needs its constant behind it."),
         Sentence::OneConstant(at) => about_operator(
+            system,
             at,
             b" takes one constant: leave out the other.",
         ),
-        Sentence::TwoConstants(at) => about_operator(at, b" takes two constants: add the other."),
+        Sentence::TwoConstants(at) => about_operator(
+            system,
+            at,
+            b" takes two constants: add the other.",
+        ),
         Sentence::NoConstant(at) => about(
+            system,
             at,
             b" is no constant: that is a whole number from -9223372036854775808 to 9223372036854775807.",
         ),
-        _ => tell_of_pages(sentence),
+        _ => tell_of_pages(system, sentence),
     }
 }
 
 // The one that is left is NoDictionary.
-fn tell_of_pages(sentence: Sentence) {
+fn tell_of_pages<R: Env>(system: &System<R>, sentence: Sentence) {
+    let streams = &system.streams;
     match sentence {
-        Sentence::NoPages(dictionaries) => no_pages(dictionaries),
-        Sentence::TooLong(at) => about(at, b": longer than any page or dictionary, and not read."),
+        Sentence::NoPages(dictionaries) => no_pages(streams, dictionaries),
+        Sentence::TooLong(at) => about(
+            system,
+            at,
+            b": longer than any page or dictionary, and not read.",
+        ),
         Sentence::NoWords(at) => about(
+            system,
             at,
             b": not read: bit planes are words of 8 bytes, and its length is no multiple of 8.",
         ),
-        Sentence::Refused(at, code) => refused(at, code),
+        Sentence::Refused(at, code) => refused(system, at, code),
         Sentence::OverPage(at) => about(
+            system,
             at,
             b": a file to be read is not written over: name another one for --bitmap.",
         ),
-        Sentence::ManyPages(entries, pages) => many_pages(entries, pages),
-        Sentence::Lost(pages) => lost(pages),
-        Sentence::Missing(day, second) => missing(day, second),
-        _ => say(b"Without its dictionary no page is answered."),
+        Sentence::ManyPages(entries, pages) => many_pages(streams, entries, pages),
+        Sentence::Lost(pages) => lost(streams, pages),
+        Sentence::Missing(day, second) => missing(streams, day, second),
+        _ => say(streams, b"Without its dictionary no page is answered."),
     }
 }
 
-fn say(words: &[u8]) {
-    io::write_all(STDERR_FILENO, words);
-    io::write_all(STDERR_FILENO, b"\n");
+fn say(streams: &Streams, words: &[u8]) {
+    streams.write_all(Stream::Errors, words);
+    streams.write_all(Stream::Errors, b"\n");
 }
 
 // A word as it was typed.
-fn typed(at: usize) {
+fn typed<R: Env>(system: &System<R>, at: usize) {
+    let streams = &system.streams;
     let mut word = io::buffer();
-    let n = os::arg(at, &mut word);
-    io::write_all(STDERR_FILENO, &word[..n]);
+    let n = system.arg(at, &mut word);
+    streams.write_all(Stream::Errors, &word[..n]);
 }
 
 // A word, and what is said of it.
-fn about(at: usize, words: &[u8]) {
-    typed(at);
-    say(words);
+fn about<R: Env>(system: &System<R>, at: usize, words: &[u8]) {
+    let streams = &system.streams;
+    typed(system, at);
+    say(streams, words);
 }
 
-fn about_operator(at: usize, words: &[u8]) {
-    about(at, words);
-    operators(STDERR_FILENO);
+fn about_operator<R: Env>(system: &System<R>, at: usize, words: &[u8]) {
+    let streams = &system.streams;
+    about(system, at, words);
+    operators(streams, Stream::Errors);
 }
 
 // Which of the words that were typed stands at a place, the first being 1.
-fn typed_as(at: usize) -> usize {
-    let first = first_word();
+fn typed_as<R: Env>(system: &System<R>, at: usize) -> usize {
+    let first = first_word(system);
     if at < first {
         return 0;
     }
@@ -237,58 +284,77 @@ fn typed_as(at: usize) -> usize {
 }
 
 // Which word it is, by its beginning and its place.
-fn long_word(at: usize) {
+fn long_word<R: Env>(system: &System<R>, at: usize) {
+    let streams = &system.streams;
     let mut word = io::buffer();
-    os::arg(at, &mut word);
-    io::write_all(STDERR_FILENO, &word[0..40]);
+    system.arg(at, &mut word);
+    streams.write_all(Stream::Errors, &word[0..40]);
     Line::new()
         .words(b"..: word ")
-        .number(typed_as(at) as u64)
+        .number(typed_as(system, at) as u64)
         .words(b" is too long: a word has at most 4096 bytes.")
-        .write(STDERR_FILENO);
+        .write(streams, Stream::Errors);
 }
 
 // What an option takes, and before it what it was given.
-fn takes(at: usize, option: u32) {
+fn takes<R: Env>(system: &System<R>, at: usize, option: u32) {
+    let streams = &system.streams;
     if at == 0 {
-        io::write_all(STDERR_FILENO, b"scan");
+        streams.write_all(Stream::Errors, b"scan");
     } else {
-        typed(at);
+        typed(system, at);
     }
     match option {
-        WIDTH => say(b": --width takes a whole number from 0 to 32."),
+        WIDTH => say(streams, b": --width takes a whole number from 0 to 32."),
         ENTRIES => say(
+            streams,
             b": --entries takes a whole number from 0 to 16777216, which is 1024 full pages.",
         ),
-        LAST => say(b": --last takes a whole number from 0 to 16384, the entries of a full page."),
-        BITMAP => say(b": --bitmap takes the name of a file."),
-        NUMBERS => say(b": --numbers takes nothing behind it."),
-        SPANS => say(b": --spans takes nothing behind it."),
-        JOIN => say(b": --join takes a whole number from 1 to 86400, the seconds of a day."),
-        DAY => say(b": --day takes a whole number from 1 to 99999."),
-        _ => say(b": --start takes a time from 00:00:00 to 23:59:59."),
+        LAST => say(
+            streams,
+            b": --last takes a whole number from 0 to 16384, the entries of a full page.",
+        ),
+        BITMAP => say(streams, b": --bitmap takes the name of a file."),
+        NUMBERS => say(streams, b": --numbers takes nothing behind it."),
+        SPANS => say(streams, b": --spans takes nothing behind it."),
+        JOIN => say(
+            streams,
+            b": --join takes a whole number from 1 to 86400, the seconds of a day.",
+        ),
+        DAY => say(streams, b": --day takes a whole number from 1 to 99999."),
+        _ => say(
+            streams,
+            b": --start takes a time from 00:00:00 to 23:59:59.",
+        ),
     }
 }
 
-fn no_pages(dictionaries: usize) {
+fn no_pages(streams: &Streams, dictionaries: usize) {
     if dictionaries == 0 {
-        say(b"scan: no page files: name them in order before the comparison.");
+        say(
+            streams,
+            b"scan: no page files: name them in order before the comparison.",
+        );
     } else {
         say(
+            streams,
             b"scan: no page files: name the dictionary, then the pages in order, then the comparison.",
         );
     }
 }
 
-fn refused(at: usize, code: u32) {
-    typed(at);
-    io::write_all(STDERR_FILENO, b": refused with code ");
-    io::print_decimal(STDERR_FILENO, code as u64);
-    io::write_all(STDERR_FILENO, b": ");
-    meaning(code);
+fn refused<R: Env>(system: &System<R>, at: usize, code: u32) {
+    let streams = &system.streams;
+    typed(system, at);
+    streams.write_all(Stream::Errors, b": refused with code ");
+    let mut digits = [0u8; 20];
+    let n = io::decimal(code as u64, &mut digits);
+    streams.write_all(Stream::Errors, &digits[..n]);
+    streams.write_all(Stream::Errors, b": ");
+    meaning(streams, code);
 }
 
-fn many_pages(entries: usize, pages: usize) {
+fn many_pages(streams: &Streams, entries: usize, pages: usize) {
     Line::new()
         .words(b"scan: ")
         .number(entries as u64)
@@ -297,96 +363,113 @@ fn many_pages(entries: usize, pages: usize) {
         .words(b" pages at most, and ")
         .number(pages as u64)
         .words(b" files are named.")
-        .write(STDERR_FILENO);
-    say(b"Give the column's entries with --entries, or the last page's with --last.");
+        .write(streams, Stream::Errors);
+    say(
+        streams,
+        b"Give the column's entries with --entries, or the last page's with --last.",
+    );
 }
 
-fn lost(pages: usize) {
+fn lost(streams: &Streams, pages: usize) {
     if pages == 1 {
-        say(b"1 page was refused or not read: its seconds are not in the answer.");
+        say(
+            streams,
+            b"1 page was refused or not read: its seconds are not in the answer.",
+        );
     } else {
         Line::new()
             .number(pages as u64)
             .words(b" pages were refused or not read: their seconds are not in the answer.")
-            .write(STDERR_FILENO);
+            .write(streams, Stream::Errors);
     }
 }
 
-fn missing(day: u32, second: usize) {
+fn missing(streams: &Streams, day: u32, second: usize) {
     let line = Line::new().words(b"No page is named for the seconds from ");
     clock(line, day, second)
         .words(b" on: they are not in the answer.")
-        .write(STDERR_FILENO);
+        .write(streams, Stream::Errors);
 }
 
 // What a code means: of the arguments, of a page or its runs, of a layout's own.
-fn meaning(code: u32) {
+fn meaning(streams: &Streams, code: u32) {
     match code {
-        1 => say(b"width above 32"),
-        2 => say(b"more than 16,384 entries"),
-        3 => say(b"operator above 7"),
-        4 => say(b"output too short"),
-        5 => say(b"the page ends too early"),
-        6 => say(b"bytes of the page are left over"),
-        _ => page_meaning(code),
+        1 => say(streams, b"width above 32"),
+        2 => say(streams, b"more than 16,384 entries"),
+        3 => say(streams, b"operator above 7"),
+        4 => say(streams, b"output too short"),
+        5 => say(streams, b"the page ends too early"),
+        6 => say(streams, b"bytes of the page are left over"),
+        _ => page_meaning(streams, code),
     }
 }
 
-fn page_meaning(code: u32) {
+fn page_meaning(streams: &Streams, code: u32) {
     match code {
-        7 => say(b"unused bits not 0"),
-        8 => say(b"run value not below 2^width"),
-        9 => say(b"variable-length number beyond 32 bits"),
-        10 => say(b"run of length 0"),
-        11 => say(b"run goes too far past the page's entries"),
-        _ => layout_meaning(code),
+        7 => say(streams, b"unused bits not 0"),
+        8 => say(streams, b"run value not below 2^width"),
+        9 => say(streams, b"variable-length number beyond 32 bits"),
+        10 => say(streams, b"run of length 0"),
+        11 => say(streams, b"run goes too far past the page's entries"),
+        _ => layout_meaning(streams, code),
     }
 }
 
-fn layout_meaning(code: u32) {
+fn layout_meaning(streams: &Streams, code: u32) {
     match code {
-        12 => say(b"delta shape: block size or miniblock count not as allowed"),
-        13 => say(b"delta count is not the entries asked of this page"),
+        12 => say(
+            streams,
+            b"delta shape: block size or miniblock count not as allowed",
+        ),
+        13 => say(
+            streams,
+            b"delta count is not the entries asked of this page",
+        ),
         14 => say(
+            streams,
             b"dictionary: length no multiple of 4, over 65,536 bytes, or values not strictly ascending",
         ),
-        15 => say(b"index not below the dictionary's count"),
-        _ => say(b"a code without a meaning here"),
+        15 => say(streams, b"index not below the dictionary's count"),
+        _ => say(streams, b"a code without a meaning here"),
     }
 }
 
 // How the program is used, and parts of it; each answers whether it was written.
-fn usage(fd: i32) -> bool {
-    let is_begun = io::write_all(
-        fd,
+fn usage(streams: &Streams, to: Stream) -> bool {
+    let is_begun = streams.write_all(
+        to,
         b"usage: scan LAYOUT [OPTION...] PAGE... OPERATOR CONSTANT [CONSTANT]\n\
         Says which seconds of a column satisfy a comparison, and draws each day. As in\n\
         \x20 scan delta level-*.delta between 110 420\n\
         \x20 scan dictionary landing.dict landing-*.idx equal 4\n\
         \x20 scan runs --width 3 calls-*.runs at-least 1\n",
     );
-    is_begun && layouts(fd) && operators(fd) && options(fd) && status(fd)
+    is_begun
+        && layouts(streams, to)
+        && operators(streams, to)
+        && options(streams, to)
+        && status(streams, to)
 }
 
-fn layouts(fd: i32) -> bool {
-    io::write_all(
-        fd,
+fn layouts(streams: &Streams, to: Stream) -> bool {
+    streams.write_all(
+        to,
         b"Layouts: horizontal, planes, runs (these need --width), delta, dictionary (its\n\
         \x20 first file is the dictionary).\n",
     )
 }
 
-fn operators(fd: i32) -> bool {
-    io::write_all(
-        fd,
+fn operators(streams: &Streams, to: Stream) -> bool {
+    streams.write_all(
+        to,
         b"Operators: equal, not-equal, less, at-most, greater, at-least with one constant,\n\
         \x20 between, not-between with two; or their numbers, 0 to 7.\n",
     )
 }
 
-fn options(fd: i32) -> bool {
-    io::write_all(
-        fd,
+fn options(streams: &Streams, to: Stream) -> bool {
+    streams.write_all(
+        to,
         b"Options, anywhere before -- if it is there, and as --width N or --width=N:\n\
         \x20 --width N         bits of an entry, 0 to 32\n\
         \x20 --entries N       entries of the whole column, 86400 if not given; a page has 16384\n\
@@ -402,9 +485,9 @@ fn options(fd: i32) -> bool {
     )
 }
 
-fn status(fd: i32) -> bool {
-    io::write_all(
-        fd,
+fn status(streams: &Streams, to: Stream) -> bool {
+    streams.write_all(
+        to,
         b"The program itself always ends with status 0. Installed, or run by tools/run-program,\n\
         it ends with 1 where it told of a refusal or an error.\n",
     )

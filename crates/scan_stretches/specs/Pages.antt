@@ -1,7 +1,7 @@
 -- The stretches of a page, and what they leave.
 use Rattle.std.specs.Prelude.{◌≡◌, Bool, drop, get_or}
 use Rattle.std.proofs.Math.Path.{refl, ap}
-use Rattle.std.proofs.Common.{sym, ◌∙◌, arith, length-drop, drop-cons, take_at}
+use Rattle.std.proofs.Common.{◌∙◌, arith, length-drop, drop-cons, take_at}
 use Rattle.std.proofs.Math.Bool.{true, false, cond}
 use mathlib.Core.List.{List, [], ◌∷◌}
 use Prim.Native.Nat.{ℕ, suc, ◌+◌, ◌-◌, ◌*◌, ◌/◌, ◌≤◌, ◌<◌, min}

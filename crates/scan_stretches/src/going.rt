@@ -6,7 +6,7 @@ ghost use Rattle.scan_stretches.specs.Going.{fresh, reaching, touching, stretchi
 use crate::told::seconds;
 use scan_day::passing::one_more;
 
-#[derive(Drop)]
+#[derive(Clone, Copy)]
 pub struct Going {
     // gaps of up to so many seconds are closed
     pub gap: usize,

@@ -5,11 +5,11 @@ ghost use Rattle.scan_stretches.specs.Pages.{stretched, spans_of};
 
 use crate::going::Going;
 use crate::told;
-use libc::STDOUT_FILENO;
+use lines::streams::{Stream, Streams};
 use spans_list::from_bitmap::from_bitmap;
 use words::counts::min;
 
-#[derive(Drop)]
+#[derive(Clone, Copy)]
 pub struct Listing {
     pub going: Going,
     // has the column several days
@@ -33,7 +33,13 @@ pub fn begun(gap: u32, has_days: bool) -> Listing
     }
 }
 
-fn is_line_written(has_days: bool, day: u32, going: Going, may_end_later: bool) -> bool {
+fn is_line_written(
+    streams: &Streams,
+    has_days: bool,
+    day: u32,
+    going: Going,
+    may_end_later: bool,
+) -> bool {
     let line = told::stretch(
         has_days,
         day,
@@ -42,12 +48,12 @@ fn is_line_written(has_days: bool, day: u32, going: Going, may_end_later: bool) 
         going.may_begin_earlier,
         may_end_later,
     );
-    let next = line.part(STDOUT_FILENO);
+    let next = line.part(streams, Stream::Output);
     !next.lost
 }
 
 // The stretch that may go on has ended, if there is one: is every line written with it.
-pub fn ended(listing: Listing, day: u32, may_end_later: bool) -> bool
+pub fn ended(streams: &Streams, listing: Listing, day: u32, may_end_later: bool) -> bool
     ensures { listing.is_written ≡ false → result ≡ false }
 {
     let going = listing.going;
@@ -57,11 +63,18 @@ pub fn ended(listing: Listing, day: u32, may_end_later: bool) -> bool
     if !going.is_open {
         return true;
     }
-    is_line_written(listing.has_days, day, going, may_end_later)
+    is_line_written(streams, listing.has_days, day, going, may_end_later)
 }
 
 // The next stretch, from entry `first` to entry `last`, which are counted from second `start` on.
-fn pair_passed(listing: Listing, day: u32, start: usize, first: u32, last: u32) -> Listing
+fn pair_passed(
+    streams: &Streams,
+    listing: Listing,
+    day: u32,
+    start: usize,
+    first: u32,
+    last: u32,
+) -> Listing
     requires { start < 1099511627776 }
     ensures { result.going ≡ stretching (start + first) (start + last + 1) listing.going }
 {
@@ -78,26 +91,33 @@ fn pair_passed(listing: Listing, day: u32, start: usize, first: u32, last: u32) 
     Listing {
         going: next,
         has_days: listing.has_days,
-        is_written: ended(listing, day, false),
+        is_written: ended(streams, listing, day, false),
     }
 }
 
 // The stretches of a list of such pairs.
-fn list_passed(before: Listing, day: u32, start: usize, list: &[u32]) -> Listing
+fn list_passed(streams: &Streams, before: Listing, day: u32, start: usize, list: &[u32]) -> Listing
     requires { start < 1099511627776 }
     ensures { result.going ≡ stretched start list.now before.going }
 {
     let mut listing = before;
     let mut k: usize = 0;
     while k + 1 < list.len() {
-        listing = pair_passed(listing, day, start, list[k], list[k + 1]);
+        listing = pair_passed(streams, listing, day, start, list[k], list[k + 1]);
         k += 2;
     }
     listing
 }
 
 // The n seconds of an answered page, from second `start` on.
-pub fn page_passed(before: Listing, day: u32, start: usize, n: usize, bitmap: &[u8]) -> Listing
+pub fn page_passed(
+    streams: &Streams,
+    before: Listing,
+    day: u32,
+    start: usize,
+    n: usize,
+    bitmap: &[u8],
+) -> Listing
     requires { start < 1099511627776 }
     ensures { result.going
         ≡ stretched start (spans_of bitmap.now n) before.going }
@@ -105,11 +125,11 @@ pub fn page_passed(before: Listing, day: u32, start: usize, n: usize, bitmap: &[
     let mut places = [0u32; PLACES];
     let answer = from_bitmap(bitmap, n, &mut places);
     let numbers = 2 * min(answer.number as usize, PLACES / 2);
-    list_passed(before, day, start, &places[0..numbers])
+    list_passed(streams, before, day, start, &places[0..numbers])
 }
 
 // Seconds from one to before another that were not answered.
-pub fn page_lost(before: Listing, day: u32, start: usize, end: usize) -> Listing
+pub fn page_lost(streams: &Streams, before: Listing, day: u32, start: usize, end: usize) -> Listing
     ensures { result.going ≡ cond (ltb start end) (losing end before.going) before.going }
 {
     if end <= start {
@@ -120,6 +140,6 @@ pub fn page_lost(before: Listing, day: u32, start: usize, end: usize) -> Listing
     Listing {
         going: next,
         has_days: before.has_days,
-        is_written: ended(before, day, going.reaches(start)),
+        is_written: ended(streams, before, day, going.reaches(start)),
     }
 }

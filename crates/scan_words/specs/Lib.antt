@@ -1,3 +1,4 @@
+pub mod Finding
 pub mod Names
 pub mod LookedUp
 pub mod Numbers

@@ -3,7 +3,7 @@ use Rattle.std.specs.Prelude.{◌≡◌, refl, Bool, true, false, cond, ◌&&◌
 use Rattle.std.proofs.Common.{sym, ap, true≢false, arith, drop_of_length-le, take_all, drop-drop, eqb-true, eq-eqb}
 use Prim.Native.Nat.{ℕ, suc, ◌+◌, ◌-◌, ◌<◌, ◌≤◌}
 use Rattle.std.proofs.Math.Seq.{drop-cons}
-use Rattle.bytes.specs.Bytes.{slice, index_of, index_after}
+use Rattle.scan_words.specs.Finding.{slice, index_of, index_after}
 use Rattle.scan_words.specs.Names.{equal, place, words, ahead}
 
 -- words that `equal` holds for are equal

@@ -3,7 +3,7 @@ ghost use Rattle.std.specs.Prelude.{◌≡◌, ◌≤◌, ltb, length};
 ghost use Rattle.scan_words.specs.Names.{place, words, operators, operator_number, layouts, options};
 ghost use Rattle.scan_words.specs.Names.{dashed, insteads};
 
-use bytes::scan::find;
+use crate::finding::find;
 use check::same;
 
 pub const NO_OPERATOR: u32 = 8;

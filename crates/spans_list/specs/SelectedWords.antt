@@ -1,11 +1,10 @@
 -- A bitmap by words of 64 entries: those selected, those in front of them, and where one turns to the other.
-use Rattle.std.specs.Prelude.{◌≡◌, refl, true, false, ◌&&◌, ltb, eqb, length, drop}
+use Rattle.std.specs.Prelude.{◌≡◌, refl, true, false, eqb, length, drop}
 use Rattle.std.proofs.Math.Path.{sym, ap, ap₂}
 use Rattle.std.proofs.Common.{◌∙◌, add-zero, add-suc, length-append, get_or-take, lt-ltb, le-ltb, eqb-true}
 use Rattle.std.proofs.Math.Bool.{Bool}
-use Rattle.std.specs.Bool.{xor}
 use mathlib.Core.List.{List, ◌++◌}
-use Prim.Native.Nat.{ℕ, zero, suc, ◌+◌, ◌-◌, ◌*◌, ◌/◌, ◌%◌, ◌^◌, ◌≤◌, ◌<◌}
+use Prim.Native.Nat.{ℕ, suc, ◌+◌, ◌-◌, ◌*◌, ◌/◌, ◌%◌, ◌^◌, ◌≤◌, ◌<◌}
 use native.Mathlib.Omega.{arith}
 use Rattle.std.specs.Int.Bits.{bit_xor}
 use Rattle.std.specs.Int.Count.{ones}
@@ -14,7 +13,6 @@ use Rattle.std.proofs.Math.Seq.{get_or-drop}
 use Rattle.std.proofs.lemmas.Bool.{eqb-false}
 use Rattle.rules.specs.Bits.{flag, bit, word, number, bit_of, bit_at, put}
 use Rattle.rules.specs.Bits.Order.{low_first}
-use Rattle.rules.specs.Bitmap.{tally}
 use Rattle.rules.specs.Spans.{selected}
 use Rattle.words.specs.Bits.{bit_lt, bit_word, word_of, word_lt, word-ext, word_add, word_mod, word_none, word-xor}
 use Rattle.words.specs.Joined.{Small, small-take, small-drop, bit-joined}

@@ -1,6 +1,6 @@
 -- The edges of 64 entries by the word of their turns: its set bits one after the other, lowest first; each is found by
 -- the zeros below it, and then cleared.
-use Rattle.std.specs.Prelude.{◌≡◌, refl, Bool, true, false, not, cond, List, [], ◌∷◌, ◌++◌, ℕ, zero, suc, ◌+◌, ◌-◌, ◌*◌, ◌/◌, ◌%◌, ◌^◌, ◌≤◌, ◌<◌, min, eqb, length, set}
+use Rattle.std.specs.Prelude.{◌≡◌, refl, Bool, true, false, not, cond, List, [], ◌∷◌, ◌++◌, ℕ, zero, suc, ◌+◌, ◌-◌, ◌*◌, ◌/◌, ◌%◌, ◌^◌, ◌≤◌, ◌<◌, eqb, length, set}
 use Rattle.std.proofs.Common.{sym, ap, ap₂, ◌∙◌, append_assoc, append-nil, add-zero, pow-suc, arith, length-append}
 use Rattle.std.proofs.Math.Bool.{xor}
 use Rattle.std.specs.Int.Bits.{bit_and, and_step, and_self}

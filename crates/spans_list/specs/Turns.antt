@@ -1,7 +1,7 @@
 -- Where a test turns from one entry to the next: there lie the edges of its stretches.
 use Rattle.std.specs.Prelude.{◌≡◌, refl, true, false, not, ◌&&◌, leb}
 use Rattle.std.proofs.Math.Path.{sym, ap}
-use Rattle.std.proofs.Common.{ap₂, ◌∙◌, add-zero, zero-add, length-append, le-ltb, leb-true, leb-false}
+use Rattle.std.proofs.Common.{◌∙◌, add-zero, zero-add, length-append, le-ltb, leb-true, leb-false}
 use Rattle.std.proofs.Math.Bool.{Bool, xor}
 use mathlib.Core.List.{List, [], ◌∷◌, ◌++◌, append-nil}
 use Prim.Native.Nat.{ℕ, zero, suc, ◌+◌, ◌-◌, ◌*◌, ◌/◌, ◌%◌, ◌≤◌, ◌<◌}

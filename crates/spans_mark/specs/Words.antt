@@ -1,5 +1,5 @@
 -- Words of 64 entries, stored one after the other, and their bits.
-use Rattle.std.specs.Prelude.{◌≡◌, refl, Bool, true, false, List, [], ◌∷◌, ◌++◌, ℕ, zero, suc, ◌+◌, ◌-◌, ◌*◌, ◌^◌, ◌≤◌, ◌<◌, length}
+use Rattle.std.specs.Prelude.{◌≡◌, refl, Bool, true, false, List, [], ◌++◌, ℕ, zero, suc, ◌+◌, ◌-◌, ◌*◌, ◌^◌, ◌≤◌, ◌<◌, length}
 use Rattle.std.proofs.Common.{sym, ap, ap₂, subst, ◌∙◌, append_assoc, append-nil, add-zero, mul-one, mul_comm, arith, length-append, pow-add}
 use Rattle.std.proofs.Math.Nat.{mul-sub}
 use Rattle.rules.specs.Bits.{word, bytes, put}

@@ -2,62 +2,84 @@
 // 8, which is refused; pages that other writers may write.
 use crate::topic;
 use lines::Line;
+use lines::streams::Streams;
 use unpack::delta::unpack;
 use vectors_rows::signed_entries::read;
 use vectors_rows::{GAVE, refused};
 
-pub fn shown() -> bool {
-    topic(b"Delta pages");
-    published() & others() & refusals()
+pub fn shown(streams: &Streams) -> bool {
+    topic(streams, b"Delta pages");
+    published(streams) & others(streams) & refusals(streams)
 }
 
-fn published() -> bool {
+fn published(streams: &Streams) -> bool {
     let falling = [
         0x80, 0x01, 0x04, 0x08, 0x0E, 0x03, 0x02, 0, 0, 0, 0xC0, 0x3F, 0, 0, 0, 0, 0, 0,
     ];
     reads(
+        streams,
         &[0x80, 0x01, 0x04, 0x05, 0x02, 0x02, 0, 0, 0, 0],
         &[1, 2, 3, 4, 5],
-    ) & reads(&falling, &[7, 5, 3, 1, 2, 3, 4, 5])
-        & refuses(&[0x08, 0x01, 0x05, 0x02, 0x02, 0x00], 5, 12)
-        & refuses(&[0x08, 0x01, 0x08, 0x0E, 0x03, 0x02, 0xC0, 0x3F], 8, 12)
+    ) & reads(streams, &falling, &[7, 5, 3, 1, 2, 3, 4, 5])
+        & refuses(streams, &[0x08, 0x01, 0x05, 0x02, 0x02, 0x00], 5, 12)
+        & refuses(
+            streams,
+            &[0x08, 0x01, 0x08, 0x0E, 0x03, 0x02, 0xC0, 0x3F],
+            8,
+            12,
+        )
 }
 
 // A longer spelling, a block of 256 in one miniblock, old numbers as widths that are not needed, and no
 // block at all.
-fn others() -> bool {
+fn others(streams: &Streams) -> bool {
     reads(
+        streams,
         &[0x80, 0x81, 0x00, 0x04, 0x85, 0x00, 0x02, 0x02, 0, 0, 0, 0],
         &[1, 2, 3, 4, 5],
-    ) & reads(&[0x80, 0x02, 0x01, 0x02, 0x09, 0x03, 0x00], &[-5, -7])
-        & reads(
-            &[0x80, 0x01, 0x04, 0x02, 0x09, 0x02, 0x00, 0xFF, 0x40, 0x07],
-            &[-5, -4],
-        )
-        & reads(
-            &[0x80, 0x01, 0x04, 0x01, 0xFF, 0xFF, 0xFF, 0xFF, 0x0F],
-            &[-2147483648],
-        )
-        & reads(&[0x80, 0x01, 0x04, 0x00, 0x00], &[])
+    ) & reads(
+        streams,
+        &[0x80, 0x02, 0x01, 0x02, 0x09, 0x03, 0x00],
+        &[-5, -7],
+    ) & reads(
+        streams,
+        &[0x80, 0x01, 0x04, 0x02, 0x09, 0x02, 0x00, 0xFF, 0x40, 0x07],
+        &[-5, -4],
+    ) & reads(
+        streams,
+        &[0x80, 0x01, 0x04, 0x01, 0xFF, 0xFF, 0xFF, 0xFF, 0x0F],
+        &[-2147483648],
+    ) & reads(streams, &[0x80, 0x01, 0x04, 0x00, 0x00], &[])
 }
 
-fn refusals() -> bool {
-    refuses(&[0x80, 0x01, 0x04, 0x02, 0x09], 1, 13)
-        & refuses(&[0x80, 0x01, 0x04, 0x02, 0x09, 0x02, 0x21], 2, 1)
+fn refusals(streams: &Streams) -> bool {
+    refuses(streams, &[0x80, 0x01, 0x04, 0x02, 0x09], 1, 13)
+        & refuses(streams, &[0x80, 0x01, 0x04, 0x02, 0x09, 0x02, 0x21], 2, 1)
         & refuses(
+            streams,
             &[0x80, 0x01, 0x04, 0x02, 0x09, 0x02, 0x00, 0xFF, 0x40],
             2,
             5,
         )
-        & refuses(&[0x80, 0x01, 0x04, 0x02, 0x09, 0x02, 0x20, 0, 0, 0], 2, 5)
-        & refuses(&[0x80, 0x01, 0x04, 0x01, 0x09, 0x00], 1, 6)
-        & refuses(&[0x08, 0x01, 0x01, 0xFF, 0xFF, 0xFF, 0xFF, 0x10], 1, 9)
-        & refuses(&[0x80, 0x01, 0x04, 0x00], 0, 5)
+        & refuses(
+            streams,
+            &[0x80, 0x01, 0x04, 0x02, 0x09, 0x02, 0x20, 0, 0, 0],
+            2,
+            5,
+        )
+        & refuses(streams, &[0x80, 0x01, 0x04, 0x01, 0x09, 0x00], 1, 6)
+        & refuses(
+            streams,
+            &[0x08, 0x01, 0x01, 0xFF, 0xFF, 0xFF, 0xFF, 0x10],
+            1,
+            9,
+        )
+        & refuses(streams, &[0x80, 0x01, 0x04, 0x00], 0, 5)
 }
 
 // The page on a line of its own, and below it how many entries are asked for.
-fn asked(page: &[u8], n: usize) -> Line {
-    Line::new().words(b" ").bytes(page, page.len()).end();
+fn asked(streams: &Streams, page: &[u8], n: usize) -> Line {
+    Line::new().words(b" ").bytes(page, page.len()).end(streams);
     Line::new()
         .column(24)
         .words(b"n ")
@@ -65,14 +87,20 @@ fn asked(page: &[u8], n: usize) -> Line {
         .column(GAVE)
 }
 
-fn reads(page: &[u8], published: &[i32]) -> bool {
+fn reads(streams: &Streams, page: &[u8], published: &[i32]) -> bool {
     let mut places = [0i32; 16];
     let answer = unpack(page, published.len(), &mut places);
-    read(asked(page, published.len()), answer, &places, published)
+    read(
+        streams,
+        asked(streams, page, published.len()),
+        answer,
+        &places,
+        published,
+    )
 }
 
-fn refuses(page: &[u8], n: usize, code: u32) -> bool {
+fn refuses(streams: &Streams, page: &[u8], n: usize, code: u32) -> bool {
     let mut places = [0i32; 16];
     let answer = unpack(page, n, &mut places);
-    refused(asked(page, n), answer, code)
+    refused(streams, asked(streams, page, n), answer, code)
 }

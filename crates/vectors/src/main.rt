@@ -8,19 +8,25 @@ mod horizontal;
 mod runs;
 
 use lines::Line;
+use lines::streams::Streams;
 
 // Says what comes next, a blank line before it.
-fn topic(words: &[u8]) {
-    Line::new().end().words(words).end();
+fn topic(streams: &Streams, words: &[u8]) {
+    Line::new().end(streams).words(words).end(streams);
 }
 
-fn main() {
+fn main(rt: HostRuntime) {
+    let streams = Streams::new(rt.stdout(), rt.stderr());
     Line::new()
         .words(b"Published vectors: what was asked, what the proved function gave")
-        .end();
-    if horizontal::shown() & runs::shown() & delta::shown() & dictionary::shown() {
-        topic(b"Every answer is as published.");
+        .end(&streams);
+    if horizontal::shown(&streams)
+        & runs::shown(&streams)
+        & delta::shown(&streams)
+        & dictionary::shown(&streams)
+    {
+        topic(&streams, b"Every answer is as published.");
     } else {
-        topic(b"NOT every answer is as published.");
+        topic(&streams, b"NOT every answer is as published.");
     }
 }

@@ -10,6 +10,7 @@ ghost use Rattle.vectors_rows.specs.Asked.{asked_for};
 ghost use Rattle.vectors_rows.specs.Read.{Begins, Read, Tells};
 
 use lines::Line;
+use lines::streams::Streams;
 use rules::Answer;
 
 // Where a row's answer stands, and the word behind it.
@@ -27,23 +28,24 @@ pub fn asked(page: &[u8], width: u32, n: usize) -> Line
 }
 
 // Says whether the answer is as published, and gives it back.
-pub fn told(line: Line, agrees: bool) -> bool
+pub fn told(streams: &Streams, line: Line, agrees: bool) -> bool
     ensures { result ≡ agrees }
 {
     if agrees {
-        line.end();
+        line.end(streams);
         return true;
     }
-    line.column(WORD).words(b"DIFFERS").end();
+    line.column(WORD).words(b"DIFFERS").end(streams);
     false
 }
 
 // A refusal: its code, the number 0.
-pub fn refused(line: Line, answer: Answer, code: u32) -> bool
+pub fn refused(streams: &Streams, line: Line, answer: Answer, code: u32) -> bool
     ensures { result ≡ (eqb answer.code code && eqb answer.number 0) }
 {
     let agrees = (answer.code == code) & (answer.number == 0);
     told(
+        streams,
         line.words(b"refused with ").number(answer.code as u64),
         agrees,
     )
@@ -57,12 +59,12 @@ pub fn accepted(answer: Answer, n: usize) -> bool
 }
 
 // The entries that were read.
-pub fn read(line: Line, answer: Answer, places: &[u32], entries: &[u32]) -> bool
+pub fn read(streams: &Streams, line: Line, answer: Answer, places: &[u32], entries: &[u32]) -> bool
     ensures { Tells result (Read answer places.now entries.now) }
 {
     let shown = line.words(b"reads").entries(places, answer.number as usize);
     let counted = accepted(answer, entries.len());
-    told(shown, counted & begins(places, entries))
+    told(streams, shown, counted & begins(places, entries))
 }
 
 // Does a list of entries begin with another.

@@ -4,6 +4,7 @@ ghost use Rattle.vectors_rows.specs.Read.{Begins, Read, Tells};
 use crate::{accepted, told};
 use delta_write::numbers::zigzag;
 use lines::Line;
+use lines::streams::Streams;
 use rules::Answer;
 
 // An entry, a blank before it. Its zigzag tells the sign: even 2k is k, odd 2k + 1 is -k - 1.
@@ -27,12 +28,18 @@ fn entries(line: Line, list: &[i32], n: usize) -> Line {
 }
 
 // The entries that were read.
-pub fn read(line: Line, answer: Answer, places: &[i32], published: &[i32]) -> bool
+pub fn read(
+    streams: &Streams,
+    line: Line,
+    answer: Answer,
+    places: &[i32],
+    published: &[i32],
+) -> bool
     ensures { Tells result (Read answer places.now published.now) }
 {
     let shown = entries(line.words(b"reads"), places, answer.number as usize);
     let counted = accepted(answer, published.len());
-    told(shown, counted & begins(places, published))
+    told(streams, shown, counted & begins(places, published))
 }
 
 // Does a list of entries begin with another.

@@ -1,60 +1,48 @@
--- After the last plane, or once a lane is decided: whether its entry is between two constants.
-use Rattle.std.specs.Prelude.{◌≡◌, refl, Bool, true, false, not, ◌&&◌, ◌||◌, List, ℕ, zero, suc, ◌+◌, ◌-◌, ◌^◌, ◌≤◌, ◌<◌, ℤ, pos, negsuc}
-use Rattle.std.proofs.Common.{ap, ap₂, ◌∙◌, div-one, arith}
-use Rattle.std.proofs.Math.Bool.{or-false}
-use Rattle.std.specs.Int.Signed.{lt_z, shr_z}
+-- After the last plane: which lanes are below an end and which equal it, and the two ends together.
+use Rattle.std.specs.Prelude.{◌≡◌, refl, Bool, true, false, ◌||◌, List, ℕ, ◌-◌, ◌^◌, ltb, leb, eqb, ℤ, pos, negsuc}
+use Rattle.std.proofs.Common.{sym, ap, div-one, arith, le-leb, eq-eqb, ne_eqb, ltb-true, ltb-false, leb-true, leb-false}
+use Rattle.std.proofs.Math.Path.{ap₂}
+use Rattle.std.proofs.Math.Bool.{◌&&◌}
+use Rattle.std.specs.Int.Bits.{bit_and, bit_or}
+use Rattle.std.specs.Int.Signed.{lt_z, le_z, shr_z}
+use Rattle.rules.specs.Bits.{word}
 use Rattle.rules.specs.Comparison.{between}
-use Rattle.rules.specs.Planes.{undecided}
 use Rattle.rules.specs.Vertical.{lane}
+use Rattle.words.specs.Bits.{word_and, word_or, word-not, word-ext}
 use Rattle.signed.specs.Order.{not_lt_z}
-use Rattle.vertical_compare.specs.Ends.{below, above}
-use Rattle.vertical_compare.specs.OnePlaneMore.{undecided-next, below_next, above-next}
+use Rattle.vertical_compare.specs.Ends.{same, end_at}
 
 -- with no planes to come, all the constant's bits count
-all_bits : (w : ℕ) (z : ℤ) → shr_z z (2 ^ (w - w)) ≡ z
-all_bits w z = ap (λ (k : ℕ). shr_z z (2 ^ k)) none ∙ go z
+shift_none : (z : ℤ) → shr_z z (2 ^ 0) ≡ z
+shift_none (pos c) = ap pos (div-one c)
+shift_none (negsuc c) = ap negsuc (div-one c)
+
+-- at most z is below it or equal
+at_most : (x : ℕ) (z : ℤ) → (lt_z (pos x) z || same x z) ≡ le_z (pos x) z
+at_most x (pos c) = go (ltb x c) (leb x c) refl refl
   where
-    none : w - w ≡ 0
-    none = omega arith
+    go : (s t : Bool) → ltb x c ≡ s → leb x c ≡ t → (ltb x c || eqb x c) ≡ leb x c
+    go true t e f = rw e (sym (le-leb x c (omega (arith, ltb-true x c e))))
+    go false true e f = rw (e, f) (eq-eqb x c (omega (arith, ltb-false x c e, leb-true x c f)))
+    go false false e f = rw (e, f) (ne_eqb x c (omega (arith, leb-false x c f)))
+at_most x (negsuc c) = refl
 
-    go : (z : ℤ) → shr_z z (2 ^ 0) ≡ z
-    go (pos c) = ap pos (div-one c)
-    go (negsuc c) = ap negsuc (div-one c)
+module _ (n : ℕ) (planes : List ℕ) (w : ℕ) where
+  -- the lanes below a constant, whatever whole number it is
+  pub less_end : (z : ℤ) → (end_at n planes w 0 z).less ≡ word n (λ j. lt_z (pos (lane planes 0 w j)) z)
+  unfolding end_at
+  less_end z = rw (shift_none z)
 
--- not below the low one and not above the high one
-pub between_is : (planes : List ℕ) (w : ℕ) (low high : ℤ) (j : ℕ)
-    → between low high (pos (lane planes 0 w j)) ≡ not (below planes w w low j || above planes w w high j)
-unfolding between below above
-between_is planes w low high j =
-    let x : ℤ = pos (lane planes 0 w j) in
-    rw (all_bits w low, all_bits w high)
-    (ap₂ ◌&&◌ (not_lt_z low x) (not_lt_z x high) ∙ both-not (lt_z x low) (lt_z high x))
-  where
-    both-not : (s t : Bool) → (not s && not t) ≡ not (s || t)
-    both-not true t = refl
-    both-not false t = refl
+  same_end : (z : ℤ) → (end_at n planes w 0 z).undecided ≡ word n (λ j. same (lane planes 0 w j) z)
+  unfolding end_at
+  same_end z = rw (shift_none z)
 
--- what one plane does not change of a lane that is not undecided, all planes to come do not
-module _ (planes : List ℕ) (w : ℕ) (z : ℤ) (j : ℕ) (side : ℕ → Bool)
-    (next : (i : ℕ) → i < w → undecided planes w i z j ≡ false → side (i + 1) ≡ side i) where
-  settled : (left i : ℕ) → i + left ≡ w → undecided planes w i z j ≡ false → side w ≡ side i
-  settled zero i e none = ap side (omega arith)
-  settled (suc left) i e none =
-      let more : i < w = omega arith in
-      let still : undecided planes w (i + 1) z j ≡ false = undecided-next planes w i more z j ∙ rw none in
-      settled left (i + 1) (omega arith) still ∙ next i more none
-
--- once a lane is not undecided, the planes to come change nothing
-pub below_settled : (planes : List ℕ) (w i : ℕ) → i ≤ w → (z : ℤ) (j : ℕ) → undecided planes w i z j ≡ false
-    → below planes w w z j ≡ below planes w i z j
-below_settled planes w i few z j none =
-    settled planes w z j (λ k. below planes w k z j)
-    (λ k more h. below_next planes w k more z j ∙ rw h (or-false (below planes w k z j)))
-    (w - i) i (omega arith) none
-
-pub above_settled : (planes : List ℕ) (w i : ℕ) → i ≤ w → (z : ℤ) (j : ℕ) → undecided planes w i z j ≡ false
-    → above planes w w z j ≡ above planes w i z j
-above_settled planes w i few z j none =
-    settled planes w z j (λ k. above planes w k z j)
-    (λ k more h. above-next planes w k more z j ∙ rw h (or-false (above planes w k z j)))
-    (w - i) i (omega arith) none
+  -- not below the low end, and below the high end or equal to it
+  pub ends-between : (low high : ℤ)
+      → bit_and (2 ^ n - 1 - (end_at n planes w 0 low).less)
+      (bit_or (end_at n planes w 0 high).less (end_at n planes w 0 high).undecided)
+      ≡ word n (λ j. between low high (pos (lane planes 0 w j)))
+  unfolding between
+  ends-between low high =
+      rw (less_end low, less_end high, same_end high, word-not, word_or, word_and)
+      (word-ext n (λ j _. ap₂ ◌&&◌ (sym (not_lt_z low (pos (lane planes 0 w j)))) (at_most (lane planes 0 w j) high)))

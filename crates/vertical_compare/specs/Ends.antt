@@ -1,39 +1,36 @@
--- The ends of a band: where the lanes stand to one by their planes so far, and its bits laid over all lanes.
-use Rattle.std.specs.Prelude.{◌≡◌, Bool, cond, List, ℕ, ◌-◌, ◌^◌, ◌<◌, eqb, ℤ, pos, negsuc, get_or}
-use Rattle.std.specs.Int.Bits.{bit_xor}
+-- How the lanes of a group stand to one end of a band, and what one plane more makes of that.
+use Rattle.std.specs.Prelude.{Bool, false, cond, List, ℕ, ◌-◌, ◌^◌, eqb, ℤ, pos, negsuc}
+use Rattle.std.specs.Int.Bits.{bit_and, bit_or}
 use Rattle.std.specs.Int.Signed.{lt_z, shr_z}
-use Rattle.rules.specs.Bits.{bit}
+use Rattle.rules.specs.Bits.{bit, word}
 use Rattle.rules.specs.Vertical.{lane}
-use Rattle.compare.specs.declared.bands.Band.{Band}
+use Rattle.vertical_compare.specs.declared.ends.End.{End}
 
--- after i of w planes: lane j's planes so far are below, or above, as many of the constant's highest bits
-unfoldable pub below : List ℕ → ℕ → ℕ → ℤ → ℕ → Bool
-below planes w i z j = lt_z (pos (lane planes 0 i j)) (shr_z z (2 ^ (w - i)))
+-- is the entry x that whole number
+abbrev pub same : ℕ → ℤ → Bool
+same x (pos c) = eqb x c
+same x (negsuc c) = false
 
-unfoldable pub above : List ℕ → ℕ → ℕ → ℤ → ℕ → Bool
-above planes w i z j = lt_z (shr_z z (2 ^ (w - i))) (pos (lane planes 0 i j))
-
--- the number whose bits are read; against a negative constant no lane is undecided, and 0 stands in for it
+-- the constant whose bits are read; against a negative one no lane is undecided, and 0 stands in for it
 abbrev pub bits_of : ℤ → ℕ
 bits_of (pos c) = c
 bits_of (negsuc c) = 0
 
--- bit k of c in each of 64 lanes
-unfoldable pub laid : ℕ → ℕ → ℕ
-laid c k = cond (eqb (bit c k) 1) (2 ^ 64 - 1) 0
+abbrev pub end_of : ℕ → ℕ → ℕ → End
+end_of constant less undecided = record { constant = constant; less = less; undecided = undecided }
 
--- the first m of the w lowest bits of c laid out, the highest first
-abbrev pub LaidOut : List ℕ → ℕ → ℕ → ℕ → Type 0
-LaidOut masks w c m = (k : ℕ) → k < m → get_or masks k 0 ≡ laid c (w - 1 - k)
+-- after i planes of n lanes, with `left` planes to come: a lane's planes so far against as many of the constant's
+-- highest bits
+unfoldable pub end_at : ℕ → List ℕ → ℕ → ℕ → ℤ → End
+end_at n planes i left c =
+    end_of (bits_of c)
+    (word n (λ j. lt_z (pos (lane planes 0 i j)) (shr_z c (2 ^ left))))
+    (word n (λ j. same (lane planes 0 i j) (shr_z c (2 ^ left))))
 
-abbrev pub Spread : List ℕ → ℕ → ℕ → Type 0
-Spread masks w c = LaidOut masks w c w
-
--- the low end's bits, and where the high end's are others
-abbrev pub Masked : List ℕ → List ℕ → ℕ → Band → Type 0
-Masked lows apart w band =
-    Spread lows w (bits_of band.low) × Spread apart w (bit_xor (bits_of band.low) (bits_of band.high))
-
--- a word that has the same bit in all lanes
-abbrev pub AllOrNone : ℕ → Type 0
-AllOrNone x = (x ≡ 0 → ⊥) → x ≡ 2 ^ 64 - 1
+-- one plane more: where the constant's bit is 1, the undecided lanes whose bit is 0 fall below it
+unfoldable pub stepped : ℕ → End → ℕ → ℕ → End
+stepped n end plane left =
+    cond (eqb (bit end.constant left) 1)
+    (end_of end.constant (bit_or end.less (bit_and end.undecided (2 ^ n - 1 - plane)))
+    (bit_and end.undecided plane))
+    (end_of end.constant end.less (bit_and end.undecided (2 ^ n - 1 - plane)))

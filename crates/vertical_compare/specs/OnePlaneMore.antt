@@ -1,96 +1,82 @@
--- One plane more: which lanes are still undecided against a constant, and which fall below or above it.
-use Rattle.std.specs.Prelude.{◌≡◌, Bool, true, false, not, ◌&&◌, ◌||◌, List, ℕ, ◌+◌, ◌-◌, ◌*◌, ◌/◌, ◌^◌, ◌≤◌, ◌<◌, ltb, eqb, ℤ, pos, negsuc, get_or}
+-- One plane more keeps an end true to the planes taken.
+use Rattle.std.specs.Prelude.{◌≡◌, Bool, List, ℕ, suc, ◌+◌, ◌-◌, ◌*◌, ◌/◌, ◌%◌, ◌^◌, ◌<◌, ℤ, pos, negsuc, get_or}
 use Rattle.std.proofs.Math.Path.{refl}
-use Rattle.std.proofs.Common.{sym, ap, ◌∙◌, zero-add, add-one, arith, pow-add, shr-shr, ltb-false, ne_eqb}
-use Rattle.std.specs.Bool.{xor}
-use Rattle.std.proofs.lemmas.Nat.{shl-shr}
-use Rattle.std.proofs.Math.Pow.{shr_mono}
-use Rattle.rules.specs.Bits.{bit, flag}
-use Rattle.rules.specs.Planes.{undecided}
+use Rattle.std.proofs.Common.{sym, ap, ◌∙◌, lt_of_le_of_lt, zero-add, add-one, arith, shr-shr}
+use Rattle.std.proofs.Math.Bool.{true, false}
+use Rattle.std.specs.Int.Bits.{bit_and, bit_or, and_zero_l}
+use Rattle.std.proofs.lemmas.Nat.{and_le_l, or_lt}
+use Rattle.std.proofs.Math.Dec.{ltb, eqb}
+use borrow.Author.Tests.{eqb-true, eqb-false}
+use Rattle.rules.specs.Bits.{bit, word}
 use Rattle.rules.specs.Vertical.{lane}
-use Rattle.vertical_compare.specs.BinaryDigits.{above-not, digit-equal, digit-less, digit-more}
-use Rattle.vertical_compare.specs.Ends.{below, above, bits_of}
-use Rattle.vertical_compare.specs.Lanes.{lane_lt}
-use Rattle.vertical_compare.specs.Standing.{has}
-use Rattle.vertical_compare.specs.Words.{has-flag}
+use Rattle.words.specs.Bits.{bit_lt, bit_and_lem, bit_or_lem, bit_not, bit_of_zero, bit_word, word_of, word_lt, word_none}
+use Rattle.vertical_compare.specs.Ends.{end_of, end_at, stepped}
+use Rattle.vertical_compare.specs.BinaryDigits.{Digit, digit}
+use Rattle.vertical_compare.specs.declared.ends.End.{End}
 
--- the lane's next digit is its bit of the next plane
-lane-next : (planes : List ℕ) (i j : ℕ)
-    → lane planes 0 (i + 1) j ≡ lane planes 0 i j * 2 + flag (has (get_or planes i 0) j)
-unfolding lane
-lane-next planes i j = rw (add-one i, zero-add i, ← has-flag (get_or planes i 0) j)
+-- the lanes x with a bit of the plane p behind each, against y
+module _ (n : ℕ) (x : ℕ → ℕ) (p y : ℕ) (small : p < 2 ^ n) where
+  abbrev below : ℕ
+  below = word n (λ j. ltb (x j) (y / 2))
 
--- and the constant's is its bit of the next place
-constant_next : (c w i : ℕ) → i < w → c / 2 ^ (w - (i + 1)) ≡ c / 2 ^ (w - i) * 2 + flag (has c (w - 1 - i))
-unfolding bit
-constant_next c w i more =
-    let left : ℕ = w - 1 - i in
-    let half : c / 2 ^ left / 2 ≡ c / 2 ^ (w - i) =
-    shr-shr c left 1 ∙ ap (λ (k : ℕ). c / 2 ^ k) (omega arith) in
-    let place : w - (i + 1) ≡ left = omega arith in
-    ap (λ (k : ℕ). c / 2 ^ k) place ∙ omega (arith, half, has-flag c left)
+  abbrev equal : ℕ
+  equal = word n (λ j. eqb (x j) (y / 2))
 
--- a constant above 2^w - 1 is above every lane, so that "within 0 to 2^w - 1" need not be asked
-within : (planes : List ℕ) (w i : ℕ) → i ≤ w → (c j : ℕ)
-    → undecided planes w i (pos c) j ≡ eqb (lane planes 0 i j) (c / 2 ^ (w - i))
-unfolding undecided
-within planes w i few c j = go (ltb c (2 ^ w)) refl
-  where
-    high : 2 ^ w / 2 ^ (w - i) ≡ 2 ^ i
-    high =
-        ap (λ (k : ℕ). 2 ^ k / 2 ^ (w - i)) (omega arith)
-        ∙ ap (λ (x : ℕ). x / 2 ^ (w - i)) (pow-add 2 i (w - i))
-        ∙ shl-shr (2 ^ i) (w - i)
+  next : (j : ℕ) → Digit (x j) y (bit p j)
+  next j = digit (x j) y (bit p j) (bit_lt p j)
 
-    go : (t : Bool) → ltb c (2 ^ w) ≡ t
-        → (ltb c (2 ^ w) && eqb (lane planes 0 i j) (c / 2 ^ (w - i)))
-        ≡ eqb (lane planes 0 i j) (c / 2 ^ (w - i))
-    go true e = rw e
-    go false e =
-        let most : 2 ^ w / 2 ^ (w - i) ≤ c / 2 ^ (w - i) = shr_mono (w - i) (ltb-false c (2 ^ w) e) in
-        rw e (sym (ne_eqb (lane planes 0 i j) (c / 2 ^ (w - i)) (omega (arith, high, lane_lt planes 0 i j))))
+  and-small : (q : ℕ) → bit_and equal q < 2 ^ n
+  and-small q = lt_of_le_of_lt (and_le_l equal q) (word_lt n (λ j. eqb (x j) (y / 2)))
 
--- and against a negative one no lane is undecided
-negative : (planes : List ℕ) (w i c j : ℕ) → undecided planes w i (negsuc c) j ≡ false
-unfolding undecided
-negative planes w i c j = refl
+  less_one : y % 2 ≡ 1 → bit_or below (bit_and equal (2 ^ n - 1 - p)) ≡ word n (λ j. ltb (x j * 2 + bit p j) y)
+  less_one odd =
+      word_of n _ (or_lt n _ _ (word_lt n (λ j. ltb (x j) (y / 2))) (and-small (2 ^ n - 1 - p)))
+      (λ j l. rw (bit_or_lem, bit_and_lem, bit_not n j small l, bit_word n _ j l, bit_word n _ j l) ((next j).0 odd).0)
 
-module _ (planes : List ℕ) (w i : ℕ) (more : i < w) where
-  -- a lane stays undecided where its bit is the constant's
-  pub undecided-next : (z : ℤ) (j : ℕ) → undecided planes w (i + 1) z j
-      ≡ (undecided planes w i z j && not (xor (has (get_or planes i 0) j) (has (bits_of z) (w - 1 - i))))
-  undecided-next (pos c) j =
-      rw (within planes w (i + 1) (omega arith) c j, within planes w i (omega arith) c j)
-      (rw (lane-next planes i j, constant_next c w i more)
-      (digit-equal (lane planes 0 i j) (c / 2 ^ (w - i)) (has (get_or planes i 0) j) (has c (w - 1 - i))))
-  undecided-next (negsuc c) j = rw (negative planes w (i + 1) c j, negative planes w i c j)
+  same-one : y % 2 ≡ 1 → bit_and equal p ≡ word n (λ j. eqb (x j * 2 + bit p j) y)
+  same-one odd = word_of n _ (and-small p) (λ j l. rw (bit_and_lem, bit_word n _ j l) ((next j).0 odd).1)
 
-  -- an undecided lane falls below where its bit is 0 and the constant's 1
-  pub below_next : (z : ℤ) (j : ℕ) → below planes w (i + 1) z j
-      ≡ (below planes w i z j
-      || (undecided planes w i z j && (not (has (get_or planes i 0) j) && has (bits_of z) (w - 1 - i))))
-  unfolding below
-  below_next (pos c) j =
-      rw (within planes w i (omega arith) c j)
-      (rw (lane-next planes i j, constant_next c w i more)
-      (digit-less (lane planes 0 i j) (c / 2 ^ (w - i)) (has (get_or planes i 0) j) (has c (w - 1 - i))))
-  below_next (negsuc c) j = rw (negative planes w i c j)
+  less_zero : y % 2 ≡ 0 → below ≡ word n (λ j. ltb (x j * 2 + bit p j) y)
+  less_zero even = word_of n _ (word_lt n _) (λ j l. rw (bit_word n _ j l) ((next j).1 even).0)
 
-  -- and above where its bit is 1 and the constant's 0
-  pub above-next : (z : ℤ) (j : ℕ) → above planes w (i + 1) z j
-      ≡ (above planes w i z j
-      || (undecided planes w i z j && (has (get_or planes i 0) j && not (has (bits_of z) (w - 1 - i)))))
-  unfolding above
-  above-next (pos c) j =
-      rw (within planes w i (omega arith) c j)
-      (rw (lane-next planes i j, constant_next c w i more)
-      (digit-more (lane planes 0 i j) (c / 2 ^ (w - i)) (has (get_or planes i 0) j) (has c (w - 1 - i))))
-  above-next (negsuc c) j = refl
+  same-zero : y % 2 ≡ 0 → bit_and equal (2 ^ n - 1 - p) ≡ word n (λ j. eqb (x j * 2 + bit p j) y)
+  same-zero even =
+      word_of n _ (and-small (2 ^ n - 1 - p))
+      (λ j l. rw (bit_and_lem, bit_not n j small l, bit_word n _ j l) ((next j).1 even).1)
 
--- a lane is below, undecided or above
-pub above_is : (planes : List ℕ) (w i : ℕ) → i ≤ w → (z : ℤ) (j : ℕ)
-    → above planes w i z j ≡ not (below planes w i z j || undecided planes w i z j)
-unfolding below above
-above_is planes w i few (pos c) j =
-    rw (within planes w i few c j) (above-not (lane planes 0 i j) (c / 2 ^ (w - i)))
-above_is planes w i few (negsuc c) j = rw (negative planes w i c j)
+  step_both : (c left : ℕ) → y ≡ c / 2 ^ left
+      → stepped n (end_of c below equal) p left
+      ≡ end_of c (word n (λ j. ltb (x j * 2 + bit p j) y)) (word n (λ j. eqb (x j * 2 + bit p j) y))
+  unfolding stepped bit
+  step_both c left e = go (eqb (y % 2) 1) refl
+    where
+      go : (t : Bool) → eqb (y % 2) 1 ≡ t
+          → stepped n (end_of c below equal) p left
+          ≡ end_of c (word n (λ j. ltb (x j * 2 + bit p j) y)) (word n (λ j. eqb (x j * 2 + bit p j) y))
+      go true f = let odd : y % 2 ≡ 1 = eqb-true (y % 2) 1 f in rw (← e, f, less_one odd, same-one odd)
+      go false f =
+          let even : y % 2 ≡ 0 = omega (arith, eqb-false (y % 2) 1 f) in rw (← e, f, less_zero even, same-zero even)
+
+-- a negative constant stays decided
+step-none : (n p left : ℕ) → stepped n (end_of 0 0 0) p left ≡ end_of 0 0 0
+unfolding stepped
+step-none n p left = rw (bit_of_zero left, and_zero_l (2 ^ n - 1 - p))
+
+-- after i planes, and after the next
+pub end-next : (n : ℕ) (planes : List ℕ) (i left : ℕ) (z : ℤ) → get_or planes i 0 < 2 ^ n
+    → stepped n (end_at n planes i (suc left) z) (get_or planes i 0) left ≡ end_at n planes (suc i) left z
+unfolding end_at lane
+end-next n planes i left (pos c) small =
+    let half : c / 2 ^ suc left ≡ c / 2 ^ left / 2 =
+    ap (λ (k : ℕ). c / 2 ^ k) (sym (add-one left)) ∙ sym (shr-shr c left 1) in
+    rw half (step_both n (lane planes 0 i) (get_or planes i 0) (c / 2 ^ left) small c left refl ∙ rw (zero-add i))
+end-next n planes i left (negsuc c) small = rw (word_none n) (step-none n (get_or planes i 0) left)
+
+-- a turn of a loop that counts the planes to come down
+pub end-turn : (n : ℕ) (planes : List ℕ) (i left : ℕ) (z : ℤ) (end : End) → 0 < left → get_or planes i 0 < 2 ^ n
+    → end ≡ end_at n planes i left z → stepped n end (get_or planes i 0) (left - 1) ≡ end_at n planes (i + 1) (left - 1) z
+end-turn n planes i left z end some small e =
+    let more : left ≡ suc (left - 1) = omega arith in
+    rw (e, add-one i)
+    (ap (λ (k : ℕ). stepped n (end_at n planes i k z) (get_or planes i 0) (left - 1)) more
+    ∙ end-next n planes i (left - 1) z small)

@@ -1,24 +1,23 @@
-// The ends of a band, as 64 lanes are compared with them.
-ghost use Rattle.std.specs.Prelude.{◌≡◌, [], ◌≤◌, ◌<◌, length};
-ghost use Rattle.rules.specs.Bits.{word};
-ghost use Rattle.rules.specs.Planes.{undecided};
-ghost use Rattle.vertical_compare.specs.Ends.{below, bits_of, laid, Spread};
+// One end of a band against the lanes of a group, plane by plane, the highest first.
+ghost use Rattle.std.specs.Prelude.{◌≡◌, [], ◌≤◌, ◌<◌};
+ghost use Rattle.vertical_compare.specs.Ends.{end_at, stepped};
 
-// How the 64 lanes stand to one end before the first plane: below it, or undecided; else above it.
-#[derive(Clone, Copy)]
+// How the 64 lanes stand to one end of a band by the planes taken so far: below it, and not yet decided.
+#[derive(Drop)]
 pub struct End {
+    pub constant: u64,
     pub less: u64,
     pub undecided: u64,
 }
 
-// A constant outside 0 to 2^w - 1 leaves no lane undecided.
+// A constant outside 0 to 2^w - 1 is decided before the first plane: no lane is undecided against it.
 pub fn start(constant: i64, w: usize) -> End
     requires { w ≤ 32 }
-    ensures { result
-        ≡ record { less = word 64 (below [] w 0 constant); undecided = word 64 (undecided [] w 0 constant) } }
+    ensures { result ≡ end_at 64 [] 0 w constant }
 {
     if constant < 0 {
         return End {
+            constant: 0,
             less: 0,
             undecided: 0,
         };
@@ -26,45 +25,33 @@ pub fn start(constant: i64, w: usize) -> End
     let c = constant as u64;
     if c >> w == 0 {
         return End {
+            constant: c,
             less: 0,
             undecided: u64::MAX,
         };
     }
     End {
+        constant: c,
         less: u64::MAX,
         undecided: 0,
     }
 }
 
-// The bits of a constant that can have lanes undecided; another one is not asked for its bits.
-pub fn bits_of(constant: i64) -> u64
-    ensures { result ≡ bits_of constant }
+// One plane more; `left` planes are still to come after it.
+pub fn step(end: End, plane: u64, left: usize) -> End
+    requires { left < 32 }
+    ensures { result ≡ stepped 64 end plane left }
 {
-    if constant < 0 {
-        return 0;
+    if (end.constant >> left) % 2 == 1 {
+        return End {
+            constant: end.constant,
+            less: end.less | (end.undecided & !plane),
+            undecided: end.undecided & plane,
+        };
     }
-    constant as u64
-}
-
-// Bit k of c in all 64 lanes.
-fn lay(c: u64, k: usize) -> u64
-    requires { k < 64 }
-    ensures { result ≡ laid c k }
-{
-    if (c >> k) % 2 == 1 {
-        return u64::MAX;
-    }
-    0
-}
-
-// The w lowest bits of c, each in all lanes of a word, the highest first.
-pub fn spread(c: u64, w: usize, masks: &mut [u64])
-    requires { (w ≤ 32) × (w ≤ length masks.old) }
-    ensures { Spread masks.new w c }
-{
-    let mut k: usize = 0;
-    while k < w {
-        masks[k] = lay(c, w - 1 - k);
-        k += 1;
+    End {
+        constant: end.constant,
+        less: end.less,
+        undecided: end.undecided & !plane,
     }
 }

@@ -1,57 +1,28 @@
-// A group of 64 entries against a band: a plane is taken only while a lane is undecided against one of
-// its ends.
-ghost use Rattle.std.specs.Prelude.{◌≡◌, cond, ◌-◌, ◌^◌, ◌≤◌, length};
-ghost use Rattle.vertical_compare.specs.Ends.{Masked};
-ghost use Rattle.vertical_compare.specs.Standing.{band_compared, Standing};
+// A group of 64 entries against a band.
+ghost use Rattle.std.specs.Prelude.{◌≡◌, ◌≤◌, pos, length};
+ghost use Rattle.rules.specs.Bits.{word};
+ghost use Rattle.rules.specs.Comparison.{between};
+ghost use Rattle.rules.specs.Vertical.{lane};
 
-use crate::lanes::{Lanes, begin, step};
-use compare::bands::Band;
-use rules::Compared;
+use crate::ends::{start, step};
 
-// No lane is undecided, or no plane is left: the lanes inside, or those outside where the band selects these.
-fn told(band: Band, lanes: Lanes) -> Compared
+// The lanes from low to high with both ends: the planes of one group in, the 64 bits out.
+pub fn compare_group(planes: &[u64], low: i64, high: i64) -> u64
+    requires { length planes.now ≤ 32 }
     ensures { result
-        ≡ record {
-          bits = cond band.outside lanes.outside (2 ^ 64 - 1 - lanes.outside);
-          taken = lanes.taken;
-        } }
+        ≡ word 64
+        (λ j. between low high (pos (lane planes.now 0 (length planes.now) j))) }
 {
-    Compared {
-        bits: if band.outside {
-            lanes.outside
-        } else {
-            !lanes.outside
-        },
-        taken: lanes.taken,
+    let mut lower = start(low, planes.len());
+    let mut upper = start(high, planes.len());
+    let mut left = planes.len();
+    let mut i: usize = 0;
+    while i < planes.len() {
+        left -= 1;
+        let plane = planes[i];
+        lower = step(lower, plane, left);
+        upper = step(upper, plane, left);
+        i += 1;
     }
-}
-
-// The planes that are left, as far as they are needed.
-pub fn finish(planes: &[u64], band: Band, lows: &[u64], apart: &[u64], lanes: Lanes) -> Compared
-    requires few { (length planes.now ≤ 32) × (length planes.now ≤ length lows.now)
-        × (length planes.now ≤ length apart.now) }
-    requires masked { Masked lows.now apart.now (length planes.now) band }
-    requires standing { Standing planes.now band lanes }
-    ensures { result ≡ band_compared planes.now band }
-{
-    let mut left = lanes;
-    while left.taken < planes.len() {
-        if left.undecided == 0 {
-            return told(band, left);
-        }
-        let i = left.taken;
-        left = step(left, planes[i], lows[i], apart[i]);
-    }
-    told(band, left)
-}
-
-// The planes of one group and the bits of both ends in; a bit for each lane that the band selects out, and how many
-// planes were taken.
-pub fn compare(planes: &[u64], band: Band, lows: &[u64], apart: &[u64]) -> Compared
-    requires few { (length planes.now ≤ 32) × (length planes.now ≤ length lows.now)
-        × (length planes.now ≤ length apart.now) }
-    requires masked { Masked lows.now apart.now (length planes.now) band }
-    ensures { result ≡ band_compared planes.now band }
-{
-    finish(planes, band, lows, apart, begin(planes, band, lows, apart))
+    !lower.less & (upper.less | upper.undecided)
 }

@@ -1,7 +1,5 @@
-// Groups of 64 entries in bit planes, compared with both ends of a band at once.
+// One group of 64 entries in bit planes, compared with both ends of a band at once.
 #![tactic(auto)]
 
 pub mod ends;
-pub mod four;
 pub mod groups;
-pub mod lanes;

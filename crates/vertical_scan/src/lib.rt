@@ -4,4 +4,3 @@
 pub mod groups;
 pub mod judging;
 pub mod scanning;
-pub mod selecting;

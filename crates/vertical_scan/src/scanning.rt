@@ -1,18 +1,64 @@
 // Which entries of a column satisfy a comparison, 64 at once.
-ghost use Rattle.std.specs.Prelude.{◌≡◌, ◌≤◌, pos, length};
-ghost use Rattle.rules.specs.Bits.{ceil};
+ghost use Rattle.std.specs.Prelude.{◌≡◌, ◌+◌, ◌*◌, ◌≤◌, pos, length};
+ghost use Rattle.rules.specs.Bits.{ceil, put};
 ghost use Rattle.rules.specs.Answer.{◌then◌, room_fault, scanned};
 ghost use Rattle.rules.specs.Answer.Outcome.{outcome};
 ghost use Rattle.rules.specs.Vertical as Vertical;
 ghost use Rattle.compare.specs.Band.{banded};
+ghost use Rattle.vertical_scan.specs.Chosen.{chosen, lanes64};
 
 use crate::judging::page_fault;
-use crate::selecting::select;
 use answers::{first_fault, refused, room_fault};
 use arguments::{Arguments, arguments_of};
 use bitmaps::counted;
 use compare::bands::Band;
 use rules::Answer;
+use vertical_compare::groups::compare_group;
+use words::stores::{store_low, store8};
+
+// The lanes of group g that the band selects, a bit for each.
+fn group_bits(words: &[u64], w: usize, g: usize, band: Band) -> u64
+    requires { (w ≤ 32) × (g * w + w ≤ length words.now) }
+    ensures { result ≡ lanes64 words.now (g * w) w band }
+{
+    let at = g * w;
+    let end = at + w;
+    let inside = compare_group(&words[at..end], band.low, band.high);
+    if band.outside {
+        return !inside;
+    }
+    inside
+}
+
+// The q groups that n fills, eight bytes each.
+fn select_full(words: &[u64], w: usize, q: usize, band: Band, bitmap: &mut [u8])
+    requires { (w ≤ 32) × (q ≤ 256) × (q * w ≤ length words.now) × (8 * q ≤ length bitmap.old) }
+    ensures { bitmap.new
+        ≡ put bitmap.old 0 (chosen words.now (64 * q) w band) }
+{
+    let mut g: usize = 0;
+    while g < q {
+        store8(bitmap, 8 * g, group_bits(words, w, g, band));
+        g += 1;
+    }
+}
+
+// All n entries: of the group that n ends in only the bytes that it reaches.
+fn select(words: &[u64], w: usize, n: usize, band: Band, bitmap: &mut [u8])
+    requires { (w ≤ 32) × (n ≤ 16384) × (length words.now ≡ Vertical.page_words w n)
+        × (ceil n 8 ≤ length bitmap.old) }
+    ensures { bitmap.new
+        ≡ put bitmap.old 0 (chosen words.now n w band) }
+{
+    let q = n / 64;
+    select_full(words, w, q, band, bitmap);
+    let rest = n % 64;
+    if rest == 0 {
+        return;
+    }
+    let bits = group_bits(words, w, q, band) % (1 << rest);
+    store_low(bitmap, 8 * q, bits, (rest + 7) / 8);
+}
 
 // By its band: the room and the column are judged, then the bitmap is written and counted.
 fn scan_band(words: &[u64], width: u32, n: usize, band: Band, bitmap: &mut [u8]) -> Answer

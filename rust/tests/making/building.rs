@@ -9,21 +9,25 @@ use std::time::SystemTime;
 use crate::commands::top;
 use crate::repository::{folder, make, repository, write, NEEDS_MAKE};
 
-/// What stands in for `rt`: it proved `rules` before, and proves `cahermisk` where no file is named `wrong`.
+/// What stands in for `rt`: it proved `rules` before, and proves the library where no file is named `wrong`. In a
+/// crate's folder it says nothing of what was proved before.
 const RT: &str = "\
 #!/bin/sh
 case $1 in
-doc) echo \"$PWD/kit/docs/guide\" ;;
+doc) echo \"$PWD/kit/guide\" ;;
 version) cat kit/id ;;
-check)
-    echo 'rt: rules proved (unchanged since it was last proved)'
-    if [ -e wrong ]; then
+lib)
+    if [ -e ../../wrong ]; then
         echo 'an error of the prover'
-        echo 'rt: cahermisk NOT PROVED (exit 1, 3 s)'
+        echo 'crate cahermisk: modules loaded=1 checked=2'
+        echo 'logic=not-proved'
         exit 1
     fi
-    echo 'fn cahermisk::scan: proved'
-    echo 'rt: cahermisk proved (3 s)'
+    for crate in cahermisk cahermisk_c; do
+        echo 'fn cahermisk::scan: proved'
+        echo \"crate $crate: modules loaded=1 checked=2\"
+        echo 'logic=proved functions=1'
+    done
     ;;
 esac
 ";
@@ -36,11 +40,11 @@ cat crates/*/src/lib.rt >target/staticlib/libcahermisk.a
 echo 'words of the compiler'
 ";
 
-/// A repository of three crates, of which the library stands on two, with a toolchain.
+/// A repository of four crates, of which the library stands on two, with a toolchain.
 fn with_crates(name: &str) -> PathBuf {
     let room = repository(name, "s390x");
     write(room.join("path/rt"), RT, 0o755);
-    folder(room.join("kit/on/s390x/toolchain"));
+    folder(room.join("kit/toolchain"));
     write(room.join("kit/id"), "kit 1\n", 0o644);
     fs::remove_file(room.join("tools")).expect("the link to the tools is there");
     let tools = folder(room.join("tools"));
@@ -50,9 +54,9 @@ fn with_crates(name: &str) -> PathBuf {
     }
     fs::remove_file(tools.join("native-lib")).expect("it is among the tools");
     write(tools.join("native-lib"), NATIVE_LIB, 0o755);
-    let table = "# a comment: with a colon\nrules:\n\ncahermisk: rules io\nlines: rules\n";
+    let table = "# a comment: with a colon\nrules:\n\ncahermisk: rules io\ncahermisk_c staticlib: cahermisk\nlines: rules\n";
     write(room.join("crates.txt"), table, 0o644);
-    for name in ["rules", "cahermisk", "lines"] {
+    for name in ["rules", "cahermisk", "cahermisk_c", "lines"] {
         let crate_folder = folder(room.join("crates").join(name).join("src"));
         write(crate_folder.join("lib.rt"), name, 0o644);
     }
@@ -80,7 +84,8 @@ fn makes_lib(room: &Path, built: bool, after: &str) {
 /// What `make lib` prints, and what it shows of the proofs.
 const BUILT: (&str, &str) = (
     "Building the library\nThe library is in target/staticlib\n",
-    "0 of 2 crates proved\n2 of 2 crates proved: cahermisk\n2 of 2 crates proved, 1 of them before\n",
+    "0 of 3 crates proved\n1 of 3 crates proved: cahermisk\n2 of 3 crates proved: cahermisk_c\n\
+     3 of 3 crates proved, 1 of them before\n",
 );
 const NOTHING: (&str, &str) = (
     "Nothing to do: the library in target/staticlib is of these sources\n",
@@ -129,8 +134,7 @@ fn what_is_not_proved_is_not_built_and_shows_what_rt_said() {
         assert!(!well);
         assert!(stdout.contains("\nan error of the prover\n"), "{stdout}");
         assert!(!stdout.contains("Building"), "{stdout}");
-        let shown =
-            "rt: cahermisk NOT PROVED (exit 1, 3 s)\n1 of 2 crates proved, 1 of them before\n";
+        let shown = "cahermisk is not proved\n0 of 3 crates proved\n";
         assert!(stderr.contains(shown), "{stderr}");
     }
 }
@@ -164,7 +168,7 @@ fn a_toolchain_that_is_missing_is_told() {
         let sentence = format!("rt is missing, the command that proves the crates{put}");
         stops(without_rt, &sentence);
     }
-    fs::remove_dir(room.join("kit/on/s390x/toolchain")).expect("it is there");
+    fs::remove_dir(room.join("kit/toolchain")).expect("it is there");
     let kit = fs::canonicalize(room.join("kit")).expect("it is there");
     let kit = kit.display();
     let sentence = format!("rt has nothing for this machine, s390x, in {kit}{put}");

@@ -1,4 +1,5 @@
 -- `varints::reading::number_at` meets its contract: the sum below its weight is what the bytes passed spell, and
+-- the rest is read above it.
 use mathlib.Core.Path.{◌≡◌}
 use Prim.Native.Nat.{◌*◌, ◌^◌, ◌<◌}
 use lib.ListN.{drop}

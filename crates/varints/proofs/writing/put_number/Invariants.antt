@@ -1,4 +1,5 @@
 -- `varints::writing::put_number` meets its contract: each turn stores seven bits, and what is left is to be put
+-- behind them.
 use mathlib.Core.Path.{◌≡◌}
 use Prim.Native.Nat.{◌+◌}
 use lib.ListN.{length}

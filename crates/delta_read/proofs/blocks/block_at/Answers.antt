@@ -1,0 +1,154 @@
+-- `delta_read::blocks::block_at` meets its contract: the smallest delta, then the width bytes, which are all there,
+-- then the bodies.
+use mathlib.Core.Path.{◌≡◌, refl, sym, ap, ◌∙◌}
+use mathlib.Core.List.{List}
+use Prim.Native.Nat.{ℕ, zero, suc, ◌+◌, ◌*◌, ◌-◌, ◌/◌, ◌≤◌, ◌<◌}
+use native.Mathlib.Nat.{mul-le-mul}
+use native.Mathlib.Omega.{arith}
+use lib.ListN.{length, get_or, take, drop, length-drop}
+use lib.Seq.{get_or-drop}
+use borrow.Author.Rules.{rules}
+use mir.Syntax.{w8}
+use mir.Val.{Fits}
+use borrow.Author.Tests.{lt-ltb, le-ltb}
+use Rattle.rules.specs.Varint.{number_at}
+use Rattle.rules.specs.Delta.{width_fault, sum, body_bytes, laid_at, block_at}
+use Rattle.rules.specs.declared.Number.{Number}
+use Rattle.rules.specs.declared.Number.TheVariants.{Read}
+use Rattle.rules.specs.declared.Block.{Block}
+use Rattle.rules.specs.declared.Block.TheVariants.{Laid, Unlaid}
+use Rattle.varints.specs.Places.{next-within}
+use Rattle.varints.specs.Fields.{by_read}
+use Rattle.delta_read.specs.WidthBytes.{widths-there, sum_le}
+use Rattle.delta_read.proofs.NotRead.{not_read}
+use Rattle.delta_read.proofs.blocks.block_at.Goals as goal
+
+pub returns-in_default : goal.returns-in_default
+unfolding block_at
+returns-in_default c =
+    let n = c.number_at-least_field in
+    not_read Unlaid _ n.result c.in_default.not-Read n.ensures c.fault_of.ensures
+
+-- the smallest delta was read
+module _ (page : List ℕ) (at : ℕ) {s : Number} {least widths : ℕ} (e : s ≡ number_at 32 page at)
+    (is : s ≡ Read least widths) where
+  on-page : widths ≤ length page
+  on-page = (next-within 32 page at least widths (sym e ∙ is)).0
+
+  on-least : (minis need m : ℕ) {r : Block}
+      → r ≡ laid_at least minis need m page widths (width_fault 32 minis need (drop widths page))
+      → r ≡ block_at 32 minis need m page at
+  unfolding block_at
+  on-least minis need m = by_read Unlaid _ (sym e ∙ is)
+
+  -- the width bytes have no fault
+  there : (minis need : ℕ) {code : ℕ} → code ≡ width_fault 32 minis need (drop widths page) → code ≡ 0
+      → widths + minis ≤ length page
+  there minis need f fine =
+      omega (arith, on-page, length-drop widths page, widths-there 32 minis need (drop widths page) (sym f ∙ fine))
+
+pub width_fault-code-requires : goal.width_fault-code-requires
+width_fault-code-requires c = (on-page _ _ c.number_at-least_field.ensures c.in-Read.is, search rules)
+
+-- a fault of the width bytes is the block's
+unlaid : (h minis need m : ℕ) (page : List ℕ) (at code : ℕ) → (code ≡ 0 → ⊥)
+    → Unlaid code ≡ laid_at h minis need m page at code
+unfolding laid_at
+unlaid h minis need m page at zero fault = absurd (fault refl)
+unlaid h minis need m page at (suc code) fault = refl
+
+pub returns-then-code-ne0 : goal.returns-then-code-ne0
+returns-then-code-ne0 c =
+    let a = c.args in
+    on-least _ _ c.number_at-least_field.ensures c.in-Read.is a.minis a.need a.m
+    (unlaid _ _ _ _ _ _ _ c.if-code-ne0.true ∙ ap (laid_at _ _ _ _ _ _) c.width_fault-code.ensures)
+
+pub width_sum-requires : goal.width_sum-requires
+width_sum-requires c =
+    let a = c.args in
+    let all = there _ _ c.number_at-least_field.ensures c.in-Read.is a.minis a.need c.width_fault-code.ensures
+    c.if-code-ne0.false in
+    (omega arith, omega arith)
+
+-- the bodies of a block fit a machine word
+few : (m total : ℕ) → m ≤ 16384 → total ≤ 255 * 16384 → m / 8 * total ≤ 2048 * (255 * 16384)
+few m total short low = mul-le-mul {n₁ = m / 8} {m₁ = total} {n₂ = 2048} {m₂ = 255 * 16384} (omega arith) low
+
+low : (page : List ℕ) (widths need total : ℕ) → ((k : ℕ) → Fits w8 (get_or page k 0))
+    → total ≡ sum (take need (drop widths page)) → need ≤ 16384 → total ≤ 255 * 16384
+low page widths need total bytes is few =
+    let each = sum_le (drop widths page) need (λ i. rw get_or-drop (bytes (widths + i)).fits) in
+    omega (arith, is, each)
+
+pub overflow_mul-bodies : goal.overflow_mul-bodies
+overflow_mul-bodies c =
+    let a = c.args in
+    omega (arith, few a.m _ (omega arith) (low a.page.now _ a.need _ c.type_inv.page c.width_sum.ensures
+        (omega arith)))
+
+pub overflow_add-widths : goal.overflow_add-widths
+overflow_add-widths c =
+    let a = c.args in
+    omega (
+      arith,
+      there _ _ c.number_at-least_field.ensures c.in-Read.is a.minis a.need c.width_fault-code.ensures
+          c.if-code-ne0.false,
+    )
+
+pub overflow_sub-page : goal.overflow_sub-page
+overflow_sub-page c =
+    let a = c.args in
+    omega (
+      arith,
+      there _ _ c.number_at-least_field.ensures c.in-Read.is a.minis a.need c.width_fault-code.ensures
+          c.if-code-ne0.false,
+    )
+
+-- what the definition gives then, by whether all the bodies are there
+module _ (h minis need m : ℕ) (page : List ℕ) (at total : ℕ) (none : width_fault 32 minis need (drop at page) ≡ 0)
+    (is : total ≡ sum (take need (drop at page))) where
+  cut : length page - (at + minis) < m / 8 * total
+      → Unlaid 5 ≡ laid_at h minis need m page at (width_fault 32 minis need (drop at page))
+  unfolding laid_at body_bytes
+  cut l = rw (none, ← is, lt-ltb (length page - (at + minis)) (m / 8 * total) l)
+
+  laid : m / 8 * total ≤ length page - (at + minis)
+      → Laid h at (at + minis + m / 8 * total)
+      ≡ laid_at h minis need m page at (width_fault 32 minis need (drop at page))
+  unfolding laid_at body_bytes
+  laid l = rw (none, ← is, le-ltb (length page - (at + minis)) (m / 8 * total) l)
+
+pub returns-then-page-widths : goal.returns-then-page-widths
+returns-then-page-widths c =
+    let a = c.args in
+    let fine = sym c.width_fault-code.ensures ∙ c.if-code-ne0.false in
+    on-least _ _ c.number_at-least_field.ensures c.in-Read.is a.minis a.need a.m
+    (cut _ _ _ _ _ _ _ fine c.width_sum.ensures (omega arith))
+
+pub overflow_add-result : goal.overflow_add-result
+overflow_add-result c =
+    let a = c.args in
+    omega (
+      arith,
+      there _ _ c.number_at-least_field.ensures c.in-Read.is a.minis a.need c.width_fault-code.ensures
+          c.if-code-ne0.false,
+    )
+
+pub overflow_add-result-2 : goal.overflow_add-result-2
+overflow_add-result-2 c =
+    let a = c.args in
+    let small = few a.m _ (omega arith) (low a.page.now _ a.need _ c.type_inv.page c.width_sum.ensures
+        (omega arith)) in
+    omega (
+      arith,
+      small,
+      there _ _ c.number_at-least_field.ensures c.in-Read.is a.minis a.need
+          c.width_fault-code.ensures c.if-code-ne0.false,
+    )
+
+pub returns : goal.returns
+returns c =
+    let a = c.args in
+    let fine = sym c.width_fault-code.ensures ∙ c.if-code-ne0.false in
+    on-least _ _ c.number_at-least_field.ensures c.in-Read.is a.minis a.need a.m
+    (laid _ _ _ _ _ _ _ fine c.width_sum.ensures (omega arith))

@@ -1,0 +1,18 @@
+-- `lines::Line::column` meets its contract: the blanks that are missing.
+use borrow.Author.Rules.{rules}
+use mathlib.Core.Path.{◌∙◌}
+use Prim.Native.Nat.{◌-◌}
+use native.Mathlib.Omega.{arith}
+use Rattle.lines.specs.Text.{held}
+use Rattle.lines.specs.Laws.{padded}
+use Rattle.lines.proofs.Line.column.Goals as goal
+
+pub returns : goal.returns
+unfolding held
+returns c =
+    let g = c in
+    let s = g in
+    let line = s.args.self in
+    c.words.ensures
+    ∙ padded line.text line.used (search rules) s.args.at
+    (g.gap-k.result - 0) (omega arith)

@@ -1,0 +1,21 @@
+-- `lines::Line::place` meets its contract: the next place, or nothing where the line is full.
+use mathlib.Core.List.{[], ◌∷◌}
+use native.Mathlib.Omega.{arith}
+use borrow.Author.Rules.{rules}
+use Rattle.lines.specs.Text.{held}
+use Rattle.lines.specs.Laws.{full, one}
+use Rattle.lines.proofs.Line.place.Goals as goal
+
+pub returns-then-at-ge120 : goal.returns-then-at-ge120
+unfolding held
+returns-then-at-ge120 c =
+    let s = c in
+    full s.args.self.text s.args.self.used (search rules)
+    (s.args.b ∷ []) (omega arith)
+
+pub returns : goal.returns
+unfolding held
+returns c =
+    let s = c in
+    one s.args.self.text s.args.self.used (search rules)
+    s.args.b (omega arith)

@@ -1,0 +1,39 @@
+-- `scan_day::picture::sentence` meets its contract: its pieces one behind another.
+use mathlib.Core.List.{[]}
+use native.Mathlib.Omega.{arith}
+use borrow.Author.Tests.{eq-eqb, ne_eqb}
+use Rattle.lines.specs.Text.{ascii, decimal}
+use Rattle.scan_day.specs.Clock.{clock_time, laid-three, seven_pieces}
+use Rattle.scan_day.specs.Sentence.{sentence_of}
+use Rattle.scan_day.proofs.picture.sentence.Goals as goal
+
+pub returns-then-passed-eq0 : goal.returns-then-passed-eq0
+unfolding sentence_of ascii
+returns-then-passed-eq0 c =
+    let a = c.args in
+    rw (eq-eqb a.passed.read 0 (omega arith)) (cc)
+
+pub returns-then-passed-eq0-2 : goal.returns-then-passed-eq0-2
+unfolding sentence_of ascii
+returns-then-passed-eq0-2 c =
+    let a = c.args in
+    rw (ne_eqb a.passed.read 0 (omega arith), eq-eqb a.passed.count 0 (omega arith))
+    (cc (laid-three [] (ascii "none of ") (decimal a.passed.read) (ascii " seconds selected")))
+
+pub returns : goal.returns
+unfolding sentence_of ascii
+returns c =
+    let e = c in
+    let a = e.args in
+    rw (ne_eqb a.passed.read 0 e.if-passed-eq0.false, ne_eqb a.passed.count 0 e.if-passed-eq0-2.false)
+    (seven_pieces (decimal a.passed.count) (ascii " of ") (decimal a.passed.read)
+    (ascii " seconds selected, the first at ")
+    (clock_time a.day a.passed.first) (ascii ", the last at ") (clock_time a.day a.passed.last)
+    c.new-2.ensures
+    c.number-2.ensures
+    c.words-2.ensures
+    c.number-line.ensures
+    c.words-3.ensures
+    c.clock-from.ensures
+    c.words-4.ensures
+    c.clock.ensures)

@@ -1,0 +1,40 @@
+-- `scan_day::picture::strip` meets its contract: each turn lays out one cell more.
+use mathlib.Core.Path.{◌≡◌, ◌∙◌, ap}
+use mathlib.Core.List.{[]}
+use Prim.Native.Nat.{ℕ}
+use native.Mathlib.Omega.{arith}
+use borrow.Author.Rules.{rules}
+use Rattle.rules.specs.Bits.{tabulate}
+use Rattle.lines.specs.Text.{held, laid}
+use Rattle.scan_day.specs.Picture.{cell_at, strip_of, one-more_cell}
+use Rattle.scan_day.proofs.picture.strip.Goals as goal
+
+pub loop-c-init : goal.loop-c-init
+unfolding laid tabulate
+loop-c-init c = (search rules, c.new-line.ensures)
+
+pub loop-c-preserved : goal.loop-c-preserved
+loop-c-preserved c =
+    let d = c in
+    let s = d in
+    let l = s in
+    let a = l.args in
+    let f = cell_at a.day a.from a.end a.answered.now a.selected.now in
+    let cell : d.drawn_cell.result ≡ f l.loop-c.c = rw s.seconds_of-seconds.ensures at d.drawn_cell.ensures in (
+      search rules,
+      one-more_cell f l.loop-c.c (held l.loop-c.line) (held c.words-line.result) l.loop-c.invariant.1
+          (rw cell at c.words-line.ensures),
+    )
+
+pub loop-c-smaller : goal.loop-c-smaller
+loop-c-smaller c = omega (arith, c.loop-c-test.true)
+
+pub returns : goal.returns
+unfolding strip_of
+returns c =
+    let l = c in
+    let a = l.args in
+    let f = cell_at a.day a.from a.end a.answered.now a.selected.now in
+    let all : l.loop-c.c ≡ 72 = omega arith in
+    l.loop-c.invariant.1
+    ∙ ap (λ (n : ℕ). laid [] (tabulate n f)) all

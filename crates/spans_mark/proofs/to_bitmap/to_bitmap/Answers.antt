@@ -1,0 +1,30 @@
+-- `spans_mark::to_bitmap::to_bitmap` meets its contract: without a fault the entries covered are marked, and counted.
+use mathlib.Core.Path.{sym, ap, ◌∙◌}
+use native.Mathlib.Omega.{arith}
+use borrow.Author.Tests.{eqb-true, not-false}
+use Rattle.rules.specs.Answer.{accepted}
+use Rattle.rules.specs.Spans.{to_bitmap}
+use Rattle.answers.specs.Laws.{then_zero, not-faulty, within_count, has_room, refused_is, accepted_is}
+use Rattle.spans_mark.proofs.to_bitmap.to_bitmap.Goals as goal
+
+pub returns-then-code-ne0 : goal.returns-then-code-ne0
+unfolding to_bitmap
+returns-then-code-ne0 c =
+    refused_is _ _ _ _ _ _ c.refused.ensures (sym c.fault-code.ensures) c.if-code-ne0.true
+
+pub mark-requires : goal.mark-requires
+mark-requires c =
+    let x = then_zero _ _ (sym c.fault-code.ensures ∙ c.if-code-ne0.false) in
+    let y = then_zero _ _ x.1 in
+    let z = then_zero _ _ y.1 in (
+      within_count _ x.0,
+      has_room _ _ z.0,
+      eqb-true _ _ (not-false _ (not-faulty _ 5 (λ h. omega arith) y.0)),
+      not-faulty _ 18 (λ h. omega arith) z.1,
+    )
+
+pub returns : goal.returns
+unfolding to_bitmap
+returns c =
+    accepted_is _ _ _ _ _ _ (sym c.fault-code.ensures ∙ c.if-code-ne0.false)
+    (c.accepted.ensures ∙ ap accepted c.mark.ensures.count) c.mark.ensures.wrote

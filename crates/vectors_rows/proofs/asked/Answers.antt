@@ -1,0 +1,20 @@
+-- `vectors_rows::asked` meets its contract: its pieces one behind another.
+use Rattle.lines.specs.Text.{ascii}
+use Rattle.vectors_rows.specs.Asked.{begun}
+use Rattle.vectors_rows.proofs.asked.Goals as goal
+
+pub returns : goal.returns
+unfolding ascii
+returns c =
+    let s =
+    c in
+    begun s.args.page.now s.args.width s.args.n
+    c.new.ensures
+    c.words.ensures
+    c.bytes.ensures
+    c.column-line.ensures
+    c.words-2.ensures
+    c.number-line.ensures
+    c.words-3.ensures
+    c.number.ensures
+    c.column.ensures

@@ -1,0 +1,39 @@
+-- `vertical_compare::groups::compare_group` meets its contract.
+use mathlib.Core.Path.{◌≡◌, ◌∙◌}
+use native.Mathlib.Omega.{arith}
+use lib.ListN.{length}
+use mir.Syntax.{w64}
+use mir.ValLaws.{to_z-of_z}
+use Rattle.vertical_compare.specs.BeforeThePlanes.{any_planes}
+use Rattle.vertical_compare.specs.OnePlaneMore.{end-turn}
+use Rattle.vertical_compare.specs.AfterAllPlanes.{ends-between}
+use Rattle.vertical_compare.proofs.groups.compare_group.Goals as goal
+
+pub loop-i-init : goal.loop-i-init
+loop-i-init c =
+    let planes = c.args.planes.now in (
+      omega arith,
+      c.start-lower.ensures ∙ any_planes 64 planes (length planes) _,
+      c.start-upper.ensures ∙ any_planes 64 planes (length planes) _,
+    )
+
+pub loop-i-preserved : goal.loop-i-preserved
+loop-i-preserved c =
+    let l = c.loop-i in
+    let planes = c.args.planes.now in
+    let small = (c.type_inv.planes l.i).fits in (
+      omega arith,
+      c.step-lower.ensures ∙ end-turn 64 planes l.i l.left _ _ (omega arith) small l.invariant.1,
+      c.step-upper.ensures ∙ end-turn 64 planes l.i l.left _ _ (omega arith) small l.invariant.2,
+    )
+
+pub returns : goal.returns
+returns c =
+    let s = c in
+    let a = s.args in
+    let l = c.loop-i in
+    let none : l.left ≡ 0 = omega arith in
+    let all : l.i ≡ length a.planes.now = omega arith in
+    let lower = rw (none, all, to_z-of_z w64 a.low s.ranges.low) at l.invariant.1 in
+    let upper = rw (none, all, to_z-of_z w64 a.high s.ranges.high) at l.invariant.2 in
+    rw (lower, upper) (ends-between 64 a.planes.now (length a.planes.now) a.low a.high)

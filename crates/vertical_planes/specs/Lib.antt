@@ -1,0 +1,17 @@
+pub mod Ends
+pub mod Standing
+pub mod Four
+pub mod Words
+pub mod Masks
+pub mod BinaryDigits
+pub mod BeforeThePlanes
+pub mod OnePlaneMore
+pub mod AfterAllPlanes
+pub mod Needed
+pub mod OneLane
+pub mod Started
+pub mod Together
+pub mod NextPlane
+pub mod FourNext
+pub mod Alike
+pub mod Chosen

@@ -1,0 +1,70 @@
+// The ends of a band, as 64 lanes are compared with them.
+ghost use Rattle.std.specs.Prelude.{◌≡◌, [], ◌≤◌, ◌<◌, length};
+ghost use Rattle.rules.specs.Bits.{word};
+ghost use Rattle.rules.specs.Planes.{undecided};
+ghost use Rattle.vertical_planes.specs.Ends.{below, bits_of, laid, Spread};
+
+// How the 64 lanes stand to one end before the first plane: below it, or undecided; else above it.
+#[derive(Clone, Copy)]
+pub struct End {
+    pub less: u64,
+    pub undecided: u64,
+}
+
+// A constant outside 0 to 2^w - 1 leaves no lane undecided.
+pub fn start(constant: i64, w: usize) -> End
+    requires { w ≤ 32 }
+    ensures { result
+        ≡ record { less = word 64 (below [] w 0 constant); undecided = word 64 (undecided [] w 0 constant) } }
+{
+    if constant < 0 {
+        return End {
+            less: 0,
+            undecided: 0,
+        };
+    }
+    let c = constant as u64;
+    if c >> w == 0 {
+        return End {
+            less: 0,
+            undecided: u64::MAX,
+        };
+    }
+    End {
+        less: u64::MAX,
+        undecided: 0,
+    }
+}
+
+// The bits of a constant that can have lanes undecided; another one is not asked for its bits.
+pub fn bits_of(constant: i64) -> u64
+    ensures { result ≡ bits_of constant }
+{
+    if constant < 0 {
+        return 0;
+    }
+    constant as u64
+}
+
+// Bit k of c in all 64 lanes.
+fn lay(c: u64, k: usize) -> u64
+    requires { k < 64 }
+    ensures { result ≡ laid c k }
+{
+    if (c >> k) % 2 == 1 {
+        return u64::MAX;
+    }
+    0
+}
+
+// The w lowest bits of c, each in all lanes of a word, the highest first.
+pub fn spread(c: u64, w: usize, masks: &mut [u64])
+    requires { (w ≤ 32) × (w ≤ length masks.old) }
+    ensures { Spread masks.new w c }
+{
+    let mut k: usize = 0;
+    while k < w {
+        masks[k] = lay(c, w - 1 - k);
+        k += 1;
+    }
+}

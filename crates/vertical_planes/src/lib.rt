@@ -1,0 +1,8 @@
+// Groups of 64 entries in bit planes, compared with both ends of a band at once.
+#![tactic(auto)]
+
+pub mod ends;
+pub mod four;
+pub mod groups;
+pub mod lanes;
+pub mod selecting;
