@@ -24,12 +24,7 @@ pub fn cahermisk_horizontal_scan(
     scan(page, width, n, op, a, b, bitmap)
 }
 
-pub fn cahermisk_horizontal_unpack(
-    page: &[u8],
-    width: u32,
-    n: usize,
-    entries: &mut [u32],
-) -> Answer
+pub fn cahermisk_horizontal_unpack(page: &[u8], width: u32, n: usize, entries: &mut [u32]) -> Answer
     ensures { outcome result entries.new
         ≡ Horizontal.unpack low_first page.now width n entries.old }
 {

@@ -25,12 +25,7 @@ pub fn cahermisk_runs_scan(
     scan(page, width, n, op, a, b, bitmap)
 }
 
-pub fn cahermisk_runs_unpack(
-    page: &[u8],
-    width: u32,
-    n: usize,
-    entries: &mut [u32],
-) -> Answer
+pub fn cahermisk_runs_unpack(page: &[u8], width: u32, n: usize, entries: &mut [u32]) -> Answer
     ensures { outcome result entries.new
         ≡ Runs.unpack page.now width n entries.old }
 {

@@ -23,12 +23,7 @@ pub fn cahermisk_vertical_scan(
     scan(words, width, n, op, a, b, bitmap)
 }
 
-pub fn cahermisk_vertical_unpack(
-    words: &[u64],
-    width: u32,
-    n: usize,
-    entries: &mut [u32],
-) -> Answer
+pub fn cahermisk_vertical_unpack(words: &[u64], width: u32, n: usize, entries: &mut [u32]) -> Answer
     ensures { outcome result entries.new
         ≡ Vertical.unpack words.now width n entries.old }
 {

@@ -1,13 +1,13 @@
 -- A band's range: it lies below 2^32, its flip is 0 or 255, and it selects the entries that the band does.
-use Rattle.std.specs.Prelude.{◌≡◌, ℕ, ◌+◌, ◌-◌, ◌%◌, ◌<◌, ◌≤◌, Bool, true, false, not, ◌&&◌, ℤ, pos, int_le, int_lt, nat_lt}
+use Rattle.std.specs.Prelude.{◌≡◌, ℕ, ◌+◌, ◌-◌, ◌%◌, ◌<◌, ◌≤◌, Bool, true, false, not, ◌&&◌, ℤ, pos, negsuc, int_le, int_lt, nat_lt}
 use Rattle.std.proofs.Math.Path.{refl}
 use Rattle.std.proofs.Common.{sym, ap, ap₂, ◌∙◌, arith}
 use borrow.Author.Tests.{lt-ltb, le-ltb, ltb-true, ltb-false}
 use Rattle.rules.specs.Comparison.{between}
-use Rattle.signed.specs.Order.{not_lt_z}
+use Rattle.signed.specs.Order.{not_lt_z, same-ltb}
 use Rattle.compare.specs.Band.{turned, banded}
 use Rattle.compare.specs.Range.{inside, UsableRange, ranged, cut_of, next_of, flip_of, range_to, range_of}
-use Rattle.compare.specs.Cuts.{next_le, below-cut, below_next}
+use Rattle.compare.specs.Cuts.{next_le, below_next}
 use Rattle.compare.specs.Inside.{inside-true, Place, place}
 use Rattle.compare.specs.Inside.Place.{low, high, within}
 use Rattle.compare.specs.declared.bands.Band.{Band}
@@ -109,5 +109,9 @@ range-usable band = usable (range-whole band)
 pub ranged-band : (band : Band) (x : ℕ) → x < 4294967296 → ranged (range_of band) x ≡ banded band (pos x)
 unfolding range_of
 ranged-band band x h =
-    ranged-ends band (cut_of band.low) (next_of band.high) x (pos x) h (below-cut x band.low h)
-    (below_next x band.high h)
+    ranged-ends band (cut_of band.low) (next_of band.high) x (pos x) h (below band.low) (below_next x band.high h)
+  where
+    -- by itself, so that a wrong `cut_of` is refused here as at the law `below-cut`
+    below : (z : ℤ) → int_lt (pos x) z ≡ nat_lt x (cut_of z)
+    below (pos n) = sym (same-ltb x n x (cut_of (pos n)) (λ l. omega arith) (λ l. omega arith))
+    below (negsuc n) = sym (le-ltb x 0 (omega arith))

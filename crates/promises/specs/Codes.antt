@@ -1,24 +1,17 @@
 -- The codes: every code that a C function gives is one of those that its row of document 01, or of spans in document
--- 02, names, 0 among them for acceptance.
-use Rattle.std.specs.Prelude.{◌≡◌, refl, Bool, true, false, not, ◌||◌, List, [], ◌∷◌, ◌↔◌, ℕ, ◌%◌, ◌≤◌, ltb, eqb, length}
+-- 02, names, 0 among them for acceptance. Some of the calls: proofs/Codes.
+use Rattle.std.specs.Prelude.{◌≡◌, refl, Bool, true, false, ◌||◌, List, [], ◌∷◌, ℕ, eqb, length}
 use Rattle.std.proofs.Common.{sym, ap, ◌∙◌, true≢false, arith}
-use Rattle.rules.specs.Bits.{ceil}
 use Rattle.rules.specs.Delta.{read, page_fault}
-use Rattle.rules.specs.Spans.{misplaced}
 use Rattle.delta_write.specs.Deltas.{no_wide_fault}
-use Rattle.promises.specs.WhichFaults.{a_fault, in_order, count_limit, limits, large}
+use Rattle.promises.specs.WhichFaults.{count_limit, limits, large}
 use Rattle.promises.specs.WhichFaults.{scan_code, unpack_code, pack_code}
-use Rattle.promises.specs.WhichFaults.{horizontal-page, vertical-page, stream, delta-page, column}
-use Rattle.promises.specs.OneRunFaults.{one_code}
-use Rattle.promises.specs.Pairs.{Ascends}
-use Rattle.promises.specs.Spans.{ascends_or_18}
+use Rattle.promises.specs.WhichFaults.{horizontal-page, vertical-page, stream, delta-page}
 use Rattle.promises.specs.Exported as Exported
-use Rattle.promises.specs.Calls.{EveryHorizontalScan, EveryHorizontalUnpack, EveryHorizontalPack}
+use Rattle.promises.specs.Calls.{EveryHorizontalUnpack, EveryHorizontalPack}
 use Rattle.promises.specs.Calls.{EveryVerticalScan, EveryVerticalUnpack, EveryVerticalPack}
-use Rattle.promises.specs.Calls.{EveryRunsScan, EveryRunsUnpack, EveryRunsPack, EveryRunsNext}
+use Rattle.promises.specs.Calls.{EveryRunsScan, EveryRunsUnpack, EveryRunsPack}
 use Rattle.promises.specs.Calls.{EveryDeltaScan, EveryDeltaUnpack, EveryDeltaPack}
-use Rattle.promises.specs.Calls.{EveryDictionaryScan, EveryDictionaryUnpack}
-use Rattle.promises.specs.Calls.{EverySpansFromBitmap, EverySpansToBitmap}
 
 -- is the code one of those
 abbrev pub one_of : List ℕ → ℕ → Bool
@@ -72,14 +65,8 @@ spans_to_bitmap = 0 ∷ 2 ∷ 5 ∷ 4 ∷ 18 ∷ []
 
 -- ---- the calls
 
-abbrev Named : List ℕ → ℕ → Type 0
+abbrev pub Named : List ℕ → ℕ → Type 0
 Named cs code = one_of cs code ≡ true
-
-pub horizontal-scan : EveryHorizontalScan (λ κs a r e. one_of bare_scan r.code ≡ true)
-horizontal-scan κs a r e contract =
-    let N : ℕ → Type 0 = Named bare_scan in
-    scan_code N refl _ _ _ _ _ (Exported.horizontal-scan κs a r e contract).code_is refl refl
-    (limits N refl refl refl _ _) (horizontal-page N refl refl refl refl _ _ _ _)
 
 pub horizontal-unpack : EveryHorizontalUnpack (λ κs a r e. one_of bare_unpack r.code ≡ true)
 horizontal-unpack κs a r e contract =
@@ -129,13 +116,6 @@ runs-pack κs a r e contract =
     pack_code N refl _ _ _ _ (Exported.runs-pack κs a r e contract).code_is refl
     (limits N refl refl refl _ _) (large N refl refl _ _)
 
-pub runs-next : EveryRunsNext (λ κs a r e. one_of runs_next r.code ≡ true)
-runs-next κs a r e contract =
-    let N : ℕ → Type 0 = Named runs_next in
-    rw (Exported.runs-next κs a r e contract).code_is
-    (one_code N refl refl refl refl refl refl refl refl a.1.0 a.1.1.0 a.1.1.1.1.0 a.0.now
-    a.1.1.1.0)
-
 pub delta-scan : EveryDeltaScan (λ κs a r e. one_of delta_scan r.code ≡ true)
 delta-scan κs a r e contract =
     let N : ℕ → Type 0 = Named delta_scan in
@@ -154,51 +134,16 @@ delta-pack κs a r e contract =
     pack_code N refl _ _ _ _ (Exported.delta-pack κs a r e contract).code_is refl
     (count_limit N refl refl (length a.0.now)) (rw (no_wide_fault 32 (omega arith)))
 
-pub dictionary-scan : EveryDictionaryScan (λ κs a r e. one_of dictionary_scan r.code ≡ true)
-dictionary-scan κs a r e contract =
-    let N : ℕ → Type 0 = Named dictionary_scan in
-    scan_code N refl _ _ _ _ _ (Exported.dictionary-scan κs a r e contract).code_is refl refl
-    (count_limit N refl refl a.1.1.0) (column N refl refl refl refl refl refl refl refl refl refl _ _ _)
-
-pub dictionary-unpack : EveryDictionaryUnpack (λ κs a r e. one_of dictionary_unpack r.code ≡ true)
-dictionary-unpack κs a r e contract =
-    let N : ℕ → Type 0 = Named dictionary_unpack in
-    unpack_code N refl _ _ _ _ (Exported.dictionary-unpack κs a r e contract).code_is refl
-    (count_limit N refl refl a.1.1.0) (column N refl refl refl refl refl refl refl refl refl refl _ _ _)
-
-pub spans_from_bitmap_lem : EverySpansFromBitmap (λ κs a r e. one_of spans_from_bitmap r.code ≡ true)
-spans_from_bitmap_lem κs a r e contract =
-    let N : ℕ → Type 0 = Named spans_from_bitmap in
-    pack_code N refl _ _ _ _ (Exported.spans_from_bitmap_lem κs a r e contract).code_is refl
-    (count_limit N refl refl a.1.0) (a_fault N refl (ltb (length a.0.now) (ceil a.1.0 8)) refl)
-
-pub spans_to_bitmap_lem : EverySpansToBitmap (λ κs a r e. one_of spans_to_bitmap r.code ≡ true)
-spans_to_bitmap_lem κs a r e contract =
-    let N : ℕ → Type 0 = Named spans_to_bitmap in
-    rw (Exported.spans_to_bitmap_lem κs a r e contract).code_is
-    (in_order N refl (count_limit N refl refl a.1.0)
-    (unpack_code N refl _ _ _ _ refl refl (a_fault N refl (not (eqb (length a.0.now % 2) 0)) refl)
-    (a_fault N refl (misplaced a.1.0 0 a.0.now) refl)))
-
--- where nothing else is wrong, 18 is given just where the list does not ascend
-pub eighteen : EverySpansToBitmap (λ κs a r e.
-    a.1.0 ≤ 16384 → length a.0.now % 2 ≡ 0 → ceil a.1.0 8 ≤ length a.1.1.0.now
-    → r.code ≡ 18 ↔ (Ascends a.1.0 a.0.now → ⊥))
-eighteen κs a r e contract few even room = ascends_or_18 _ _ _ contract few even room
-
 -- ---- 16 is withdrawn, and not given again
 
 -- a code of a row is not one that the row lacks
-outside : (row : List ℕ) {code other : ℕ} → one_of row code ≡ true → one_of row other ≡ false → code ≡ other → ⊥
+pub outside : (row : List ℕ) {code other : ℕ} → one_of row code ≡ true → one_of row other ≡ false → code ≡ other → ⊥
 outside row has lacks e = true≢false (sym has ∙ ap (one_of row) e ∙ lacks)
 
 -- no delta page of any width is refused with it
 pub no_sixteen : (W n : ℕ) (page : List ℕ) → page_fault (read W n page) ≡ 16 → ⊥
 no_sixteen W n page =
     outside delta_unpack (delta-page (Named delta_unpack) refl refl refl refl refl refl refl W n page) refl
-
-pub no_sixteen_scan : EveryDeltaScan (λ κs a r e. r.code ≡ 16 → ⊥)
-no_sixteen_scan κs a r e contract = outside delta_scan (delta-scan κs a r e contract) refl
 
 pub no_sixteen_unpack : EveryDeltaUnpack (λ κs a r e. r.code ≡ 16 → ⊥)
 no_sixteen_unpack κs a r e contract = outside delta_unpack (delta-unpack κs a r e contract) refl

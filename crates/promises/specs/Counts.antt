@@ -1,5 +1,5 @@
 -- What a page that is accepted holds is enough: no entry that is asked for lies behind its end, so that the number
--- which `get_or` gives there is never an entry.
+-- which `get_or` gives there is never an entry. Dictionary columns: proofs/Counts.
 use Rattle.std.specs.Prelude.{◌≡◌, refl, List, ℕ, zero, suc, ◌+◌, ◌-◌, ◌/◌, ◌≤◌, ℤ, length}
 use Rattle.std.proofs.Common.{sym, ap, arith, length-append}
 use Rattle.rules.specs.Signed.{zigzag}
@@ -21,7 +21,6 @@ use Rattle.delta_decode.specs.MiniblockDeltas.{length-block}
 use Rattle.promises.specs.DictionaryFaults.{Indexes}
 use Rattle.promises.specs.Exported as Exported
 use Rattle.promises.specs.Calls.{EveryRunsScan, EveryRunsUnpack, EveryDeltaScan, EveryDeltaUnpack}
-use Rattle.promises.specs.Calls.{EveryDictionaryScan, EveryDictionaryUnpack}
 
 -- ---- run streams
 
@@ -123,14 +122,3 @@ delta-unpack κs a r e contract ok =
 pub record Indexed (n : ℕ) (page : List ℕ) : Type 0 where
   pub indexes : Indexes page n
   pub enough : n ≤ length (cut_entries indexes.width indexes.runs)
-
-indexing : {n : ℕ} {page : List ℕ} → Indexes page n → Indexed n page
-indexing p = record { indexes = p; enough = cut-covers p.cut }
-
-pub dictionary-scan : EveryDictionaryScan (λ κs a r e. r.code ≡ 0 → Indexed a.1.1.0 a.1.0.now)
-dictionary-scan κs a r e contract ok =
-    indexing ((Exported.dictionary-scan κs a r e contract).accepted.0 ok).1.1.1.cuttable
-
-pub dictionary-unpack : EveryDictionaryUnpack (λ κs a r e. r.code ≡ 0 → Indexed a.1.1.0 a.1.0.now)
-dictionary-unpack κs a r e contract ok =
-    indexing ((Exported.dictionary-unpack κs a r e contract).accepted.0 ok).1.1.cuttable

@@ -1,5 +1,5 @@
 -- When a dictionary column has no fault, in plain conditions: of its dictionary, of its index page by the published
--- grammar, and of its indexes.
+-- grammar, and of its indexes. The column as a whole: proofs/DictionaryFaults.
 use Rattle.std.specs.Prelude.{◌≡◌, refl, true, false, not, cond, ◌||◌, List, [], ◌∷◌, ◌↔◌, T, leb, ltb, ℤ, length, ◌<ℤ◌}
 use Rattle.std.proofs.Common.{ap, ap₂, ◌∙◌, arith}
 use Rattle.std.proofs.Math.Bool.{Bool}
@@ -11,12 +11,11 @@ use Rattle.rules.specs.Runs.{read, stream_fault, stream_entry}
 use Rattle.rules.specs.Runs.Stream.{bad}
 use Rattle.rules.specs.Grammar.{Piece, Cut}
 use Rattle.rules.specs.Dictionary.{value, count, unordered, dictionary_fault, indexes, index_at, index_fault}
-use Rattle.rules.specs.Dictionary.{column_fault}
 use Rattle.words.specs.Tests as Tests
 use Rattle.words.specs.SomeBelow.{none_below, below_none}
 use Rattle.signed.specs.Order.{not_lt_z, not_le_z}
 use Rattle.runs_read.specs.Exact as Runs
-use Rattle.promises.specs.NoFault.{◌and◌, neither, no_fault, no_rest}
+use Rattle.promises.specs.NoFault.{◌and◌, no_fault, no_rest}
 use Rattle.promises.specs.Runs.{entry_of}
 
 -- 4-byte numbers, 65,536 bytes at most, strictly ascending
@@ -118,14 +117,4 @@ below-exact page dict n =
     Iff.trans (no_fault _ 15 (λ e. omega arith)) (
       λ e i h. leb-false (count dict) (index_at n page i) (below_none n test e i h),
       λ h. none_below n test (λ i l. lt-leb (count dict) (index_at n page i) (h i l)),
-    )
-
--- 14, those of the index page, 15
-pub column-exact : (page dict : List ℕ) (n : ℕ) → column_fault dict n page ≡ 0 ↔ Exact page dict n
-unfolding column_fault
-column-exact page dict n =
-    Iff.trans
-    (neither _ _ (dictionary-exact dict) (neither _ _ (indexes-exact page n) (below-exact page dict n))) (
-      λ e. record { ascending = e.0; cuttable = e.1.0; below = rw (indexes-cut e.1.0) at e.1.1 },
-      λ good. (good.ascending, (good.cuttable, rw (indexes-cut good.cuttable) good.below)),
     )

@@ -1,4 +1,4 @@
--- Each C function keeps to what Conditions says of it.
+-- Each C function keeps to what Conditions says of it. One run, dictionary columns and spans: proofs/Exported.
 use Rattle.std.proofs.Common.{arith}
 use Rattle.rules.specs.Horizontal as Horizontal
 use Rattle.rules.specs.Vertical as Vertical
@@ -6,13 +6,10 @@ use Rattle.rules.specs.Runs as Runs
 use Rattle.rules.specs.RunWriter as RunWriter
 use Rattle.rules.specs.Delta as Delta
 use Rattle.rules.specs.DeltaWriter as DeltaWriter
-use Rattle.rules.specs.Dictionary as Dictionary
 use Rattle.promises.specs.Calls.{EveryHorizontalScan, EveryHorizontalUnpack, EveryHorizontalPack}
 use Rattle.promises.specs.Calls.{EveryVerticalScan, EveryVerticalUnpack, EveryVerticalPack}
-use Rattle.promises.specs.Calls.{EveryRunsScan, EveryRunsUnpack, EveryRunsPack, EveryRunsNext}
+use Rattle.promises.specs.Calls.{EveryRunsScan, EveryRunsUnpack, EveryRunsPack}
 use Rattle.promises.specs.Calls.{EveryDeltaScan, EveryDeltaUnpack, EveryDeltaPack}
-use Rattle.promises.specs.Calls.{EveryDictionaryScan, EveryDictionaryUnpack}
-use Rattle.promises.specs.Calls.{EverySpansFromBitmap, EverySpansToBitmap}
 use Rattle.promises.specs.Horizontal as Horizontals
 use Rattle.promises.specs.Horizontal.{horizontal}
 use Rattle.promises.specs.Vertical as Verticals
@@ -21,16 +18,11 @@ use Rattle.promises.specs.Runs as Streams
 use Rattle.promises.specs.Runs.{runs}
 use Rattle.promises.specs.Delta as Deltas
 use Rattle.promises.specs.Delta.{delta}
-use Rattle.promises.specs.Dictionary as Columns
-use Rattle.promises.specs.Dictionary.{dictionary}
-use Rattle.promises.specs.OneRun as OneRun
 use Rattle.promises.specs.Keeping.{giving, scan_keeps, unpack_keeps, pack_keeps}
 use Rattle.promises.specs.Conditions.{HorizontalScan, HorizontalUnpack, HorizontalPack}
 use Rattle.promises.specs.Conditions.{VerticalScan, VerticalUnpack, VerticalPack}
-use Rattle.promises.specs.Conditions.{RunsScan, RunsUnpack, RunsPack, RunsNext}
-use Rattle.promises.specs.Conditions.{DeltaScan, DeltaUnpack, DeltaPack, DictionaryScan, DictionaryUnpack}
-use Rattle.promises.specs.Conditions.{SpansFromBitmap, SpansToBitmap}
-use Rattle.promises.specs.Spans.{from_keeps, to_keeps}
+use Rattle.promises.specs.Conditions.{RunsScan, RunsUnpack, RunsPack}
+use Rattle.promises.specs.Conditions.{DeltaScan, DeltaUnpack, DeltaPack}
 
 pub horizontal-scan : EveryHorizontalScan
     (λ κs a r e. HorizontalScan a.0.now a.1.0 a.1.1.0 a.1.1.1.0 a.1.1.1.1.0
@@ -82,18 +74,6 @@ pub runs-pack : EveryRunsPack
 unfolding RunWriter.pack
 runs-pack κs a r e contract = pack_keeps runs Streams.writer _ _ _ contract
 
-pub runs-next : EveryRunsNext
-    (λ κs a r e. RunsNext a.0.now a.1.0 a.1.1.0 a.1.1.1.0 a.1.1.1.1.0 r)
-runs-next κs a r e contract =
-    record {
-      code_is = OneRun.code_is _ _ _ _ _ contract;
-      accepted = OneRun.one-accepted _ _ _ _ _ contract;
-      refused = OneRun.refused _ _ _ _ _ contract;
-      never_six = OneRun.never_six _ _ _ _ _ contract;
-      told = OneRun.one_told _ _ _ _ _ contract;
-      on_page = OneRun.on_page _ _ _ _ _ contract;
-    }
-
 pub delta-scan : EveryDeltaScan
     (λ κs a r e. DeltaScan a.0.now a.1.0 a.1.1.0 a.1.1.1.0 a.1.1.1.1.0
     a.1.1.1.1.1.0.now e.1.1.1.1.1.0.now r)
@@ -108,25 +88,3 @@ delta-unpack κs a r e contract = unpack_keeps (delta 32) _ tt _ _ contract
 pub delta-pack : EveryDeltaPack (λ κs a r e. DeltaPack a.0.now a.1.0.now e.1.0.now r)
 unfolding DeltaWriter.pack
 delta-pack κs a r e contract = pack_keeps (delta 32) (Deltas.writer 32 (omega arith)) _ tt _ contract
-
-pub dictionary-scan : EveryDictionaryScan
-    (λ κs a r e. DictionaryScan a.0.now a.1.0.now a.1.1.0 a.1.1.1.0 a.1.1.1.1.0
-    a.1.1.1.1.1.0 a.1.1.1.1.1.1.0.now e.1.1.1.1.1.1.0.now r)
-unfolding Dictionary.scan
-dictionary-scan κs a r e contract =
-    giving (scan_keeps dictionary _ _ _ _ _ _ _ contract) (λ ok. Columns.scan-cut _ _ _ _ _ _ _ contract ok)
-
-pub dictionary-unpack : EveryDictionaryUnpack
-    (λ κs a r e. DictionaryUnpack a.0.now a.1.0.now a.1.1.0 a.1.1.1.0.now
-    e.1.1.1.0.now r)
-unfolding Dictionary.unpack
-dictionary-unpack κs a r e contract =
-    giving (unpack_keeps dictionary _ _ _ _ contract) (λ ok. Columns.unpack-cut _ _ _ _ contract ok)
-
-pub spans_from_bitmap_lem : EverySpansFromBitmap
-    (λ κs a r e. SpansFromBitmap a.0.now a.1.0 a.1.1.0.now e.1.1.0.now r)
-spans_from_bitmap_lem κs a r e contract = from_keeps _ _ _ contract
-
-pub spans_to_bitmap_lem : EverySpansToBitmap
-    (λ κs a r e. SpansToBitmap a.0.now a.1.0 a.1.1.0.now e.1.1.0.now r)
-spans_to_bitmap_lem κs a r e contract = to_keeps _ _ _ contract

@@ -1,4 +1,5 @@
--- Every scan answers as a comparison of one entry after another does, by its own contract.
+-- Every scan answers as a comparison of one entry after another does, by its own contract; that of dictionary
+-- columns: proofs/InTurn.
 use Rattle.std.specs.Prelude.{◌≡◌, Bool, List, ℕ, ℤ, length}
 use Rattle.std.proofs.Common.{◌∙◌}
 use Rattle.rules.specs.Bits.{ceil, bytes}
@@ -10,16 +11,13 @@ use Rattle.rules.specs.Horizontal as Horizontal
 use Rattle.rules.specs.Vertical as Vertical
 use Rattle.rules.specs.Runs as Runs
 use Rattle.rules.specs.Delta as Delta
-use Rattle.rules.specs.Dictionary as Dictionary
 use Rattle.promises.specs.Scans.{in_turn, one-after_another}
 use Rattle.promises.specs.Layouts.{Layout}
 use Rattle.promises.specs.Horizontal.{horizontal}
 use Rattle.promises.specs.Vertical.{vertical}
 use Rattle.promises.specs.Runs.{runs}
 use Rattle.promises.specs.Delta.{delta}
-use Rattle.promises.specs.Dictionary.{dictionary}
 use Rattle.promises.specs.Calls.{EveryHorizontalScan, EveryVerticalScan, EveryRunsScan, EveryDeltaScan}
-use Rattle.promises.specs.Calls.{EveryDictionaryScan}
 
 module _ {K A : Type 0} (L : Layout K A) where
   -- the layout's faults in their order; else the bits of its entries, each put behind those before it, and how many
@@ -54,9 +52,3 @@ pub delta-scan : EveryDeltaScan (λ κs a r e. outcome r e.1.1.1.1.1.0.now
     a.1.1.1.1.1.0.now)
 unfolding Delta.scan
 delta-scan κs a r e contract = contract ∙ one-after_another _ _ _ _
-
-pub dictionary-scan : EveryDictionaryScan (λ κs a r e. outcome r e.1.1.1.1.1.1.0.now
-    ≡ one_by_one dictionary a.1.0.now a.0.now a.1.1.0 a.1.1.1.0 a.1.1.1.1.0
-    a.1.1.1.1.1.0 a.1.1.1.1.1.1.0.now)
-unfolding Dictionary.scan
-dictionary-scan κs a r e contract = contract ∙ one-after_another _ _ _ _

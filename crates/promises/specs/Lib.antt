@@ -1,6 +1,7 @@
 -- The chapter in reading order: what every answer promises, what every layout does, the layouts one by one, one run
 -- asked for by itself, spans, what holds of each C function, one group of bit planes, what the writers write, the
--- examples.
+-- examples. Theorems that rest on ones which a wrong definition of specs/ would make false stand in proofs/, in files of
+-- the same names.
 pub mod Promise
 pub mod Equal
 pub mod Fronts
@@ -20,7 +21,6 @@ pub mod Vertical
 pub mod Runs
 pub mod Delta
 pub mod DictionaryFaults
-pub mod Dictionary
 pub mod RunThere
 pub mod OneRunFaults
 pub mod OneRun

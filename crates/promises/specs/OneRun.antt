@@ -1,7 +1,7 @@
--- What one run asked for by itself promises: its first fault is the code, a refusal gives nothing, a run is given
--- exactly where the grammar has one and as it has it; its numbers tell the part of the page that is handed back,
--- and that part lies on the page.
-use Rattle.std.specs.Prelude.{◌≡◌, refl, List, [], ◌∷◌, ◌↔◌, ℕ, ◌+◌, ◌-◌, ◌≤◌, ◌<◌, take, drop}
+-- What one run asked for by itself promises: a refusal gives nothing; its numbers tell the part of the page that is handed
+-- back, and that part lies on the page. Its code, and that a run is given exactly where the grammar has one and as it
+-- has it: proofs/OneRun.
+use Rattle.std.specs.Prelude.{◌≡◌, refl, List, [], ◌∷◌, ℕ, ◌+◌, ◌≤◌, take, drop}
 use Rattle.std.proofs.Math.Path.{sym, ap}
 use Rattle.std.proofs.Common.{◌∙◌}
 use native.Mathlib.Omega.{arith}
@@ -11,11 +11,9 @@ use Rattle.rules.specs.Runs.Handed.{handed}
 use Rattle.rules.specs.declared.Run.{Run}
 use Rattle.rules.specs.declared.Run.TheVariants.{Repeated, Packed, Refused}
 use Rattle.rules.specs.declared.RunAnswer.{RunAnswer}
-use Rattle.runs_read.specs.One.{one-packed, one-read}
-use Rattle.promises.specs.NoFault.{◌and◌, limits-kept}
+use Rattle.runs_read.specs.One.{one-packed}
+use Rattle.promises.specs.NoFault.{◌and◌}
 use Rattle.promises.specs.WhichFaults.{run_fault}
-use Rattle.promises.specs.RunThere.{RunThere, Tells, run-told}
-use Rattle.promises.specs.OneRunFaults.{one_fault, first-fault, one-good, not_six}
 
 -- the part of the page that an answer names, and beside it the other numbers
 abbrev pub named : List ℕ → RunAnswer → Handed
@@ -29,11 +27,6 @@ names page (Packed groups start next) = refl
 
 module _ (w n covered : ℕ) (page : List ℕ) (at : ℕ) {r : RunAnswer} (contract : r ≡ one_answer w n covered page at)
   where
-    -- the code is the first of the listed faults, and nothing else is refused
-    pub code_is : r.code ≡ one_fault w n covered page at
-    unfolding one_answer
-    code_is = ap (λ (x : RunAnswer). x.code) contract ∙ first-fault w n covered page at
-
     -- on a refusal the kind is repeated, length, value and next place are 0, and the part is empty
     pub refused : (r.code ≡ 0 → ⊥)
         → r.kind ≡ 0 and r.length ≡ 0 and r.value ≡ 0 and r.next ≡ 0 and r.body_len ≡ 0
@@ -46,26 +39,6 @@ module _ (w n covered : ℕ) (page : List ℕ) (at : ℕ) {r : RunAnswer} (contr
         go (Refused code) some = (refl, (refl, (refl, (refl, refl))))
         go (Repeated count value next) some = absurd (some refl)
         go (Packed groups start next) some = absurd (some refl)
-
-    -- never with 6
-    pub never_six : r.code ≡ 6 → ⊥
-    never_six six = not_six w n covered page at (sym code_is ∙ six)
-
-    -- a run is given exactly where one stands by the grammar, with n not yet covered
-    pub one-accepted : r.code ≡ 0
-        ↔ (w ≤ 32 and n ≤ 16384) and at ≤ length page and covered < n and RunThere w (n - covered) page at
-    one-accepted =
-        let good = one-good w n covered page at in
-        (λ e. good.0 (sym code_is ∙ e), λ g. code_is ∙ good.1 g)
-
-    -- and it is that run
-    pub one_told : r.code ≡ 0 → (s : RunThere w (n - covered) page at)
-        → Tells page at r s.piece (length s.bytes)
-    unfolding one_answer
-    one_told ok s =
-        let g = one-accepted.0 ok in
-        rw (contract, one-read w n covered page at ((limits-kept w n).1 g.0) g.1.0 g.1.1.0)
-        (run-told w (n - covered) page at s)
 
     -- an answer in numbers tells the same as the part handed back and the numbers beside it
     pub same-told : one_run w n covered page at ≡ named page r

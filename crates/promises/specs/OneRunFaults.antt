@@ -1,18 +1,13 @@
--- The faults of one run asked for by itself: their order, when there is none, in plain conditions, and that 6 is
--- not among them.
-use Rattle.std.specs.Prelude.{◌≡◌, Bool, cond, List, ◌↔◌, ℕ, ◌-◌, ◌≤◌, ◌<◌, leb, ltb, length}
+-- The faults of one run asked for by itself: their order, and which they are. When there is none, in plain conditions, and
+-- that 6 is not among them: proofs/OneRunFaults.
+use Rattle.std.specs.Prelude.{◌≡◌, Bool, cond, List, ℕ, ◌-◌, leb, ltb, length}
 use Rattle.std.proofs.Math.Path.{refl}
 use Rattle.std.proofs.Math.Bool.{true, false}
-use Rattle.std.proofs.Math.Logic.Iff
-use Rattle.std.proofs.Common.{arith, leb-false}
-use Rattle.std.proofs.lemmas.Bool.{lt-leb}
 use Rattle.rules.specs.Answer.{faulty, ◌then◌, limit_fault}
 use Rattle.rules.specs.Varint.{number_at}
 use Rattle.rules.specs.Runs.{run_at, one_at}
 use Rattle.rules.specs.declared.Run.TheVariants.{Refused}
-use Rattle.promises.specs.NoFault.{◌and◌, neither, no_fault, not-below, limits-kept}
 use Rattle.promises.specs.WhichFaults.{run_fault, a_fault, in_order, limits, run}
-use Rattle.promises.specs.RunThere.{RunThere, run-exact}
 
 -- 1, 2, then 5 for a place past the page's end, then 11 if n or more are covered, then the first fault of the run
 abbrev pub one_fault : ℕ → ℕ → ℕ → List ℕ → ℕ → ℕ
@@ -38,16 +33,7 @@ module _ (w n covered : ℕ) (page : List ℕ) (at : ℕ) where
       go false false false true = refl
       go false false false false = refl
 
-  pub one-good : one_fault w n covered page at ≡ 0
-      ↔ (w ≤ 32 and n ≤ 16384) and at ≤ length page and covered < n and RunThere w (n - covered) page at
-  one-good =
-      neither _ _ (limits-kept w n)
-      (neither _ _ (not-below (length page) at 5 (λ e. omega arith))
-      (neither _ _
-      (Iff.trans (no_fault (leb n covered) 11 (λ e. omega arith)) (leb-false n covered, lt-leb n covered))
-      (run-exact w (n - covered) page at)))
-
--- ---- never 6
+-- ---- which they are
 
 -- 1, 2, 5, 11, and those of a run
 pub one_code : (Named : ℕ → Type 0) → Named 0 → Named 1 → Named 2 → Named 5 → Named 8 → Named 9 → Named 10 → Named 11
@@ -57,8 +43,3 @@ one_code Named none one two five eight nine ten eleven w n covered page at =
     (in_order Named none (a_fault Named none (ltb (length page) at) five)
     (in_order Named none (a_fault Named none (leb n covered) eleven)
     (run Named none five eight nine ten eleven w (n - covered) page (number_at 32 page at))))
-
-pub not_six : (w n covered : ℕ) (page : List ℕ) (at : ℕ) → one_fault w n covered page at ≡ 6 → ⊥
-not_six =
-    one_code (λ code. code ≡ 6 → ⊥) (λ e. omega arith) (λ e. omega arith) (λ e. omega arith) (λ e. omega arith)
-    (λ e. omega arith) (λ e. omega arith) (λ e. omega arith) (λ e. omega arith)

@@ -1,4 +1,5 @@
--- A list of pairs, first and last number, lying flat: pair by pair, when it is well placed and which entries it covers.
+-- A list of pairs, first and last number, lying flat: pair by pair, when it is well placed and which entries it covers;
+-- the first as one law: proofs/Pairs.
 use Rattle.std.specs.Prelude.{◌≡◌, refl, Bool, true, false, ◌&&◌, ◌||◌, List, [], ◌∷◌, ◌↔◌, ℕ, zero, suc, ◌+◌, ◌*◌, ◌≤◌, ◌<◌, leb, length, get_or}
 use Rattle.std.proofs.Common.{sym, true≢false, arith, le-ltb, le-leb, leb-true}
 use Rattle.std.proofs.lemmas.Bool.{lt-leb}
@@ -50,7 +51,7 @@ no_pair n from list few = (
   λ h. absurd (omega arith),
 )
 
-placed-ascends : (n from : ℕ) (list : List ℕ) → misplaced n from list ≡ false → Ascends n list × Starts from list
+pub placed-ascends : (n from : ℕ) (list : List ℕ) → misplaced n from list ≡ false → Ascends n list × Starts from list
 placed-ascends n from [] e = no_pair n from [] (omega arith)
 placed-ascends n from (x ∷ []) e = no_pair n from (x ∷ []) (omega arith)
 placed-ascends n from (first ∷ last ∷ s) e =
@@ -77,7 +78,7 @@ placed-ascends n from (first ∷ last ∷ s) e =
         below zero h = l
         below (suc k) h = rw (next_last first last s k) (rest.0.below-count k (omega arith))
 
-ascends-placed : (n from : ℕ) (list : List ℕ) → Ascends n list → Starts from list → misplaced n from list ≡ false
+pub ascends-placed : (n from : ℕ) (list : List ℕ) → Ascends n list → Starts from list → misplaced n from list ≡ false
 unfolding misplaced
 ascends-placed n from [] a b = refl
 ascends-placed n from (x ∷ []) a b = refl
@@ -95,9 +96,6 @@ ascends-placed n from (first ∷ last ∷ s) a b =
       below-count = λ k h. rw (next_last first last s k) at (a.below-count (suc k) (omega arith));
     })
     (λ h. let g : last + 1 < get_or s 0 0 = a.gap 0 (omega arith) in omega arith))
-
-pub placed-exact : (n : ℕ) (list : List ℕ) → misplaced n 0 list ≡ false ↔ Ascends n list
-placed-exact n list = (λ e. (placed-ascends n 0 list e).0, λ a. ascends-placed n 0 list a (λ h. omega arith))
 
 -- ---- the entries that a list covers are those in its stretches
 

@@ -1,9 +1,8 @@
 -- The room that a C function gives is enough: any list within the limits is packed there, and any bitmap's spans are
--- written; a bare page fills it. Of two calls: the second (a', e') is asked for the room of the first one's width and
+-- written (proofs/Rooms); a bare page fills it. Of two calls: the second (a', e') is asked for the room of the first one's width and
 -- count.
-use Rattle.std.specs.Prelude.{◌≡◌, Bool, List, ℕ, ◌+◌, ◌*◌, ◌/◌, ◌≤◌, length}
+use Rattle.std.specs.Prelude.{◌≡◌, Bool, List, ℕ, ◌≤◌, length}
 use Rattle.std.proofs.Common.{sym, ◌∙◌, le_trans, arith}
-use Rattle.rules.specs.Bits.{ceil}
 use Rattle.rules.specs.Answer.{count_fault, limit_fault}
 use Rattle.rules.specs.Answer.Outcome.{outcome}
 use Rattle.rules.specs.Bitmap.{bitmap}
@@ -19,7 +18,6 @@ use Rattle.runs_write.specs.Sizes.{stream-enough}
 use Rattle.delta_write.specs.Deltas.{AllWithin}
 use Rattle.delta_write.specs.Sizes as Delta
 use Rattle.delta_write.specs.Sizes.{page-enough}
-use Rattle.spans_list.specs.Turns.{spans-enough}
 use Rattle.cahermisk.specs.Rooms.{unless, within}
 use Rattle.promises.specs.NoFault.{count_kept, limits-kept}
 use Rattle.promises.specs.Layouts.{Layout}
@@ -32,10 +30,9 @@ use Rattle.promises.specs.Runs as Streams
 use Rattle.promises.specs.Runs.{runs}
 use Rattle.promises.specs.Delta as Deltas
 use Rattle.promises.specs.Delta.{delta}
-use Rattle.promises.specs.Exported.{spans_from_bitmap_lem}
 use Rattle.promises.specs.Calls.{EveryHorizontalPack, EveryVerticalPack, EveryRunsPack, EveryDeltaPack}
 use Rattle.promises.specs.Calls.{EveryBitmapBytes, EveryHorizontalBytes, EveryVerticalWords, EveryRunsBytes}
-use Rattle.promises.specs.Calls.{EveryDeltaBytes, EverySpansPlaces, EverySpansFromBitmap}
+use Rattle.promises.specs.Calls.{EveryDeltaBytes}
 
 -- in room for its page a list is packed, and the number is the page's length
 fits_in : {K A : Type 0} (L : Layout K A) (W : Writer L) (xs : List A) (k : K) (before : List ℕ) {after : List ℕ}
@@ -58,7 +55,7 @@ fills L W xs k before contract kept fit size lent =
 unsigned-room : (w n places : ℕ) → w ≤ 32 → n ≤ 16384 → unless (limit_fault w n) places ≡ places
 unsigned-room w n places narrow few = within (limit_fault w n) places ((limits-kept w n).1 (narrow, few))
 
-signed-room : (n places : ℕ) → n ≤ 16384 → unless (count_fault n) places ≡ places
+pub signed-room : (n places : ℕ) → n ≤ 16384 → unless (count_fault n) places ≡ places
 signed-room n places few = within (count_fault n) places ((count_kept n).1 few)
 
 -- of the bare layouts the room is the page's length
@@ -109,14 +106,3 @@ delta-fits κs a r e contract few held κs' a' room e' given n lent =
 pub bitmap-fills : EveryBitmapBytes (λ κs a room e. a.0 ≤ 16384
     → (test : ℕ → Bool) → length (bitmap a.0 test) ≡ room)
 bitmap-fills κs a room e given few test = length-bitmap a.0 test ∙ sym (given ∙ signed-room _ _ few)
-
--- the spans of any bitmap that is long enough are written, never 4
-pub spans_fit : EverySpansFromBitmap (λ κs a r e. a.1.0 ≤ 16384 → ceil a.1.0 8 ≤ length a.0.now
-    → EverySpansPlaces (λ κs' a' room e'. a'.0 ≡ a.1.0 → room ≤ length a.1.1.0.now
-    → (r.code ≡ 0) × (2 * r.number ≤ room)))
-spans_fit κs a r e contract few long κs' a' room e' given n lent =
-    let size : room ≡ 2 * ((a.1.0 + 1) / 2) = given ∙ rw n (signed-room _ _ few) in
-    let enough = spans-enough a.0.now a.1.0 in
-    let keeps = spans_from_bitmap_lem κs a r e contract in
-    let ok = keeps.accepted.1 (few, (long, le_trans enough (rw size at lent))) in
-    (ok, rw ((keeps.gives ok).1.number_is, size) enough)

@@ -1,5 +1,6 @@
--- A run at a place of a page by the published grammar: it is read exactly where it stands, and told as it stands.
-use Rattle.std.specs.Prelude.{◌≡◌, refl, List, [], ◌++◌, ◌↔◌, ℕ, ◌+◌, ◌-◌, ◌*◌, length, take, drop}
+-- A run at a place of a page by the published grammar: it is read where it stands, and told as it
+-- stands; that it is read there alone: proofs/RunThere.
+use Rattle.std.specs.Prelude.{◌≡◌, refl, List, [], ◌++◌, ℕ, ◌+◌, ◌-◌, ◌*◌, length, take, drop}
 use Rattle.std.proofs.Common.{sym, ap, ◌∙◌, arith}
 use Rattle.rules.specs.Runs.{Stream, also, after, run_at, answer_of}
 use Rattle.rules.specs.Grammar.Piece.{same, packed}
@@ -10,7 +11,6 @@ use Rattle.rules.specs.declared.Run.TheVariants.{Repeated, Packed, Refused}
 use Rattle.rules.specs.declared.RunAnswer.{RunAnswer}
 use Rattle.runs_read.specs.RunAfterRun.{never}
 use Rattle.runs_read.specs.RunRead.{ran_packed}
-use Rattle.runs_read.specs.Sound.{StandsAs, one-sound}
 use Rattle.runs_read.specs.Complete.{one-complete}
 
 -- bytes of the page from the place on are a run, where `left` entries are not yet covered; any may follow
@@ -81,14 +81,3 @@ module _ (w left : ℕ) (page : List ℕ) (at : ℕ) where
             next_is = ends;
             body_is = rw size;
           })
-
-  -- what is read without a fault is a run of the grammar
-  run-stands : (r : Run) → StandsAs w left page at r → (answer_of r).code ≡ 0 → RunThere w left page at
-  run-stands (Refused code) fault none = absurd (omega arith)
-  run-stands (Repeated count value to) one none =
-      record { bytes = one.bytes; behind = drop to page; piece = _; is_run = one.run; there = one.there }
-  run-stands (Packed groups start to) one none =
-      record { bytes = one.bytes; behind = drop to page; piece = _; is_run = one.run; there = one.there }
-
-  pub run-exact : (answer_of (run_at w left page at)).code ≡ 0 ↔ RunThere w left page at
-  run-exact = (run-stands (run_at w left page at) (one-sound w left page at), λ s. (run-told s).accepts)

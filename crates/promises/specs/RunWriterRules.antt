@@ -1,5 +1,5 @@
 -- How the writer of run streams writes a list, run by run, in document 01's sentences; s is what is not yet written.
-use Rattle.std.specs.Prelude.{◌≡◌, List, ◌++◌, ◌⊎◌, ℕ, ◌+◌, ◌*◌, ◌≤◌, ◌<◌, length, drop}
+use Rattle.std.specs.Prelude.{◌≡◌, List, ◌++◌, ◌⊎◌, ℕ, ◌*◌, ◌≤◌, ◌<◌, length, drop}
 use Rattle.rules.specs.Grammar.{Spells}
 use Rattle.rules.specs.RunWriter.{stretch, groups_of, next_run, taken, run_bytes, stream}
 use Rattle.rules.specs.Shortest.{shortest}

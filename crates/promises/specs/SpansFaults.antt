@@ -1,12 +1,11 @@
--- When the two operations of spans find no fault, in plain conditions.
+-- When the two operations of spans find no fault, in plain conditions; where a list is well placed: proofs/SpansFaults.
 use Rattle.std.specs.Prelude.{◌≡◌, not, List, ◌↔◌, ℕ, ◌%◌, ◌≤◌, ltb, eqb, length}
 use Rattle.std.proofs.Math.Logic.Iff
 use Rattle.std.proofs.Common.{arith}
 use Rattle.rules.specs.Bits.{ceil}
 use Rattle.rules.specs.Answer.{faulty, ◌then◌, count_fault, room_fault}
-use Rattle.rules.specs.Spans.{spans, misplaced}
+use Rattle.rules.specs.Spans.{spans}
 use Rattle.promises.specs.NoFault.{◌and◌, neither, no_fault, not-below, no_rest, count_kept, room-enough}
-use Rattle.promises.specs.Pairs.{Ascends, placed-exact}
 
 -- 5 of a list
 pub even-exact : (list : List ℕ) → faulty (not (eqb (length list % 2) 0)) 5 ≡ 0 ↔ length list % 2 ≡ 0
@@ -19,16 +18,3 @@ pub from_good : (bits : List ℕ) (n places : ℕ)
 from_good bits n places =
     neither _ _ (count_kept n)
     (neither _ _ (not-below _ _ 5 (λ e. omega arith)) (room-enough places (length (spans bits n))))
-
--- 18
-list_exact : (n : ℕ) (list : List ℕ) → faulty (misplaced n 0 list) 18 ≡ 0 ↔ Ascends n list
-list_exact n list = Iff.trans (no_fault (misplaced n 0 list) 18 (λ e. omega arith)) (placed-exact n list)
-
--- 2, 5, 4, 18
-pub to_good : (list : List ℕ) (n places : ℕ)
-    → (count_fault n then faulty (not (eqb (length list % 2) 0)) 5 then room_fault places (ceil n 8)
-    then faulty (misplaced n 0 list) 18) ≡ 0
-    ↔ n ≤ 16384 and length list % 2 ≡ 0 and ceil n 8 ≤ places and Ascends n list
-to_good list n places =
-    neither _ _ (count_kept n)
-    (neither _ _ (even-exact list) (neither _ _ (room-enough places (ceil n 8)) (list_exact n list)))

@@ -1,5 +1,5 @@
 -- The maximal stretches of the entries that pass a test, as a list of pairs: what such a list is good for, and that
--- a bitmap's spans are it.
+-- a bitmap's spans are one; that they are all: proofs/Stretches.
 use Rattle.std.specs.Prelude.{◌≡◌, Bool, ◌&&◌, ◌||◌, List, [], ◌∷◌, ltb, leb, length}
 use Rattle.std.proofs.Math.Path.{refl, sym}
 use Rattle.std.proofs.Common.{ap, ap₂, ◌∙◌, arith}
@@ -8,9 +8,9 @@ use Prim.Native.Nat.{ℕ, zero, suc, ◌+◌, ◌-◌, ◌%◌, ◌≤◌, ◌<�
 use Rattle.std.proofs.Math.Dec.{eqb}
 use borrow.Author.Tests.{le-ltb, le-leb, lt-leb, ltb-true, ltb-false, leb-true, leb-false, eqb-true, eqb-false}
 use Rattle.rules.specs.Spans.{selected, spans, covered, misplaced}
-use Rattle.spans_list.specs.Turns.{past_n, spans-even}
+use Rattle.spans_list.specs.Turns.{past_n}
 use Rattle.spans_mark.specs.Placed.{Placed, first-placed, covered-low}
-use Rattle.promises.specs.Pairs.{HasPair, first_of, last_of, next-first, next_last, placed-exact}
+use Rattle.promises.specs.Pairs.{HasPair, first_of, last_of, next-first, next_last}
 use Rattle.promises.specs.Listed.{Listed, All, never, edges-listed}
 use Rattle.promises.specs.Listed.Listed.{none, pair}
 
@@ -102,7 +102,7 @@ module _ (test : ℕ → Bool) where
         both same = ap₂ ◌∷◌ first-is (ap₂ ◌∷◌ last-is (same last-is))
 
     -- a pair of it is a stretch, where none is open at `from`
-    listed-stretch : {from : ℕ} {l : List ℕ} → Listed test to from l → ((i : ℕ) → suc i ≡ from → test i ≡ false)
+    pub listed-stretch : {from : ℕ} {l : List ℕ} → Listed test to from l → ((i : ℕ) → suc i ≡ from → test i ≡ false)
         → (k : ℕ) → HasPair l k → Stretch test (first_of l k) (last_of l k)
     listed-stretch (none nothing) closed k h = absurd (omega arith)
     listed-stretch (pair {from = from} {first = first} below nothing ordered on behind low rest) closed zero h =
@@ -122,7 +122,7 @@ module _ (test : ℕ → Bool) where
         (listed-stretch rest (λ i e. let same : i ≡ suc last = omega arith in ap test same ∙ behind) k (omega arith))
 
     -- and a stretch is a pair of it
-    stretch-listed : {from : ℕ} {l : List ℕ} → Listed test to from l → (first last : ℕ) → from ≤ first → last < to
+    pub stretch-listed : {from : ℕ} {l : List ℕ} → Listed test to from l → (first last : ℕ) → from ≤ first → last < to
         → Stretch test first last → Lists l first last
     stretch-listed (none nothing) first last h m s =
         absurd (never test first (s.all_selected first (omega arith) s.ordered)
@@ -198,7 +198,7 @@ placed-listed test n from (first ∷ last ∷ s) past same e even =
 -- ---- the stretches of a bitmap
 
 module _ (bits : List ℕ) (n : ℕ) where
-  spans-listed : Listed (selected bits n) n 0 (spans bits n)
+  pub spans-listed : Listed (selected bits n) n 0 (spans bits n)
   unfolding spans
   spans-listed = edges-listed (selected bits n) n (past_n bits n)
 
@@ -215,20 +215,3 @@ module _ (bits : List ℕ) (n : ℕ) where
   spans-back l placed even same =
       listed-unique (selected bits n) n spans-listed
       (placed-listed (selected bits n) n 0 l (past_n bits n) (λ j _ h. same j h) placed even)
-
-  pub spans_stretches : Stretches (selected bits n) (spans bits n)
-  spans_stretches =
-      record {
-        paired = spans-even bits n;
-        each_is = listed-stretch (selected bits n) n spans-listed (λ i e. absurd (omega arith));
-        every =
-            λ first last s. stretch-listed (selected bits n) n spans-listed first last (omega arith) (low last s) s;
-        ascending = ((placed-exact n (spans bits n)).0 spans-placed).gap;
-      }
-    where
-      low : {first : ℕ} (last : ℕ) → Stretch (selected bits n) first last → last < n
-      low last s =
-          let not-past : n ≤ last → ⊥ =
-          λ past. never (selected bits n) last (s.all_selected last s.ordered (omega arith))
-          (past_n bits n last past) in
-          omega (arith, not-past)

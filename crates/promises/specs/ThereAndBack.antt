@@ -1,9 +1,9 @@
--- What is packed is read back, what is unpacked of a bare page packs to it again, and a bitmap and its spans make each
--- other: of two calls, of which the second is given what the first left. A second call's arguments, answer and exit are
--- marked a', r', e'.
-use Rattle.std.specs.Prelude.{◌≡◌, ◌*◌, ◌/◌, ◌≤◌, length, take}
+-- What is packed is read back, and what is unpacked of a bare page packs to it again: of two calls, of which the second
+-- is given what the first left (a bitmap and its spans: proofs/ThereAndBack). A second call's arguments, answer and exit
+-- are marked a', r', e'.
+use Rattle.std.specs.Prelude.{◌≡◌, ◌≤◌, length, take}
 use Rattle.std.proofs.Common.{◌∙◌, arith}
-use Rattle.rules.specs.Bits.{ceil, put}
+use Rattle.rules.specs.Bits.{put}
 use Rattle.rules.specs.Answer.{accepted}
 use Rattle.rules.specs.Answer.Outcome.{outcome}
 use Rattle.rules.specs.Horizontal as Horizontal
@@ -13,7 +13,6 @@ use Rattle.rules.specs.RunWriter as RunWriter
 use Rattle.rules.specs.Delta as Delta
 use Rattle.rules.specs.DeltaWriter as DeltaWriter
 use Rattle.words.specs.Joined.{Small}
-use Rattle.bitmaps.specs.Counts.{count_ones}
 use Rattle.delta_write.specs.Deltas.{AllWithin}
 use Rattle.promises.specs.Writers.{packed-unpacks}
 use Rattle.promises.specs.Bare.{unpacked_packs}
@@ -25,10 +24,9 @@ use Rattle.promises.specs.Runs as Streams
 use Rattle.promises.specs.Runs.{runs}
 use Rattle.promises.specs.Delta as Deltas
 use Rattle.promises.specs.Delta.{delta}
-use Rattle.promises.specs.Spans.{UnusedClear, bitmap-back, list_back}
 use Rattle.promises.specs.Calls.{EveryHorizontalUnpack, EveryHorizontalPack, EveryVerticalUnpack}
 use Rattle.promises.specs.Calls.{EveryVerticalPack, EveryRunsUnpack, EveryRunsPack, EveryDeltaUnpack}
-use Rattle.promises.specs.Calls.{EveryDeltaPack, EverySpansFromBitmap, EverySpansToBitmap}
+use Rattle.promises.specs.Calls.{EveryDeltaPack}
 
 -- ---- packed, and unpacked with room for the entries: they are the entries
 
@@ -109,28 +107,3 @@ vertical-packs-back κs a r e contract ok words κs' a' r' e' again entries widt
     again ∙ rw (entries, width)
     (unpacked_packs vertical Verticals.writer Verticals.bare a.0.now a.1.0 a.1.1.0
     a.1.1.1.0.now a'.1.1.0.now words contract ok room)
-
--- ---- a bitmap's spans, and their bitmap with room for it: it is the bytes that n reaches, where the bitmap lent is
--- bytes and its bits past n are 0
-
-pub spans_mark_back : EverySpansFromBitmap (λ κs a r e. r.code ≡ 0 → Small 8 a.0.now
-    → UnusedClear a.1.0 a.0.now → EverySpansToBitmap (λ κs' a' r' e'.
-    a'.0.now ≡ take (2 * r.number) e.1.1.0.now → a'.1.0 ≡ a.1.0
-    → ceil a.1.0 8 ≤ length a'.1.1.0.now
-    → outcome r' e'.1.1.0.now
-    ≡ outcome (accepted (count_ones (take (ceil a.1.0 8) a.0.now)))
-    (put a'.1.1.0.now 0 (take (ceil a.1.0 8) a.0.now))))
-spans_mark_back κs a r e contract ok bytes clear κs' a' r' e' again list n room =
-    again ∙ rw (list, n)
-    (bitmap-back a.0.now a.1.0 a.1.1.0.now contract ok bytes clear a'.1.1.0.now room)
-
--- ---- the bitmap of a list of spans, and its spans with room for them: they are the list
-
-pub spans_list_back : EverySpansToBitmap (λ κs a r e. r.code ≡ 0 → EverySpansFromBitmap (λ κs' a' r' e'.
-    a'.0.now ≡ take (ceil a.1.0 8) e.1.1.0.now → a'.1.0 ≡ a.1.0
-    → length a.0.now ≤ length a'.1.1.0.now
-    → outcome r' e'.1.1.0.now
-    ≡ outcome (accepted (length a.0.now / 2)) (put a'.1.1.0.now 0 a.0.now)))
-spans_list_back κs a r e contract ok κs' a' r' e' again bitmap n room =
-    again ∙ rw (bitmap, n)
-    (list_back a.0.now a.1.0 a.1.1.0.now contract ok a'.1.1.0.now room)

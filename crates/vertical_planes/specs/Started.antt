@@ -4,7 +4,6 @@ use Rattle.std.proofs.Common.{sym, ap, ap₂, ◌∙◌, arith}
 use Rattle.std.specs.Int.Bits.{bit_and, bit_or}
 use Rattle.rules.specs.Bits.{word}
 use Rattle.rules.specs.Planes.{undecided}
-use Rattle.rules.specs.Vertical.{lane}
 use Rattle.words.specs.Bits.{word-ext, word_and, word_or}
 use Rattle.words.specs.Bits.{word-not}
 use Rattle.words.specs.Tests.{both}

@@ -4,14 +4,14 @@ use Rattle.std.proofs.Common.{sym, ap, ap₂, ◌∙◌, true≢false, arith, lt
 use Rattle.std.specs.Bool.{xor}
 use Rattle.std.specs.Int.Bits.{bit_and, bit_or, bit_xor}
 use Rattle.std.proofs.lemmas.Bool.{eqb-false}
-use Rattle.rules.specs.Bits.{bit, word}
+use Rattle.rules.specs.Bits.{word}
 use Rattle.rules.specs.Planes.{undecided}
 use Rattle.rules.specs.Vertical.{lane}
 use Rattle.words.specs.Bits.{bit_of_zero, word-ext, word_and, word_or}
 use Rattle.words.specs.Bits.{word-xor, word-not, word_all}
 use Rattle.words.specs.Tests.{both}
 use Rattle.compare.specs.declared.bands.Band.{Band}
-use Rattle.vertical_planes.specs.Ends.{below, above, bits_of, laid, Masked}
+use Rattle.vertical_planes.specs.Ends.{below, above, bits_of, Masked}
 use Rattle.vertical_planes.specs.Standing.{has, low_open, high_open, out, some_open, Standing, Within}
 use Rattle.vertical_planes.specs.OnePlaneMore.{undecided-next, below_next, above-next, above_is}
 use Rattle.vertical_planes.specs.BeforeThePlanes.{undecided-same}

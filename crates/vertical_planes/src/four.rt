@@ -106,7 +106,7 @@ fn planes_at(first: &[u64], second: &[u64], third: &[u64], fourth: &[u64], i: us
     requires { (i < length first.now) × (i < length second.now) × (i < length third.now)
         × (i < length fourth.now) }
     ensures { result ≡ record {
-      first = get_or first.entry.now i 0;
+      first = get_or first.now i 0;
       second = get_or second.now i 0;
       third = get_or third.now i 0;
       fourth = get_or fourth.now i 0;

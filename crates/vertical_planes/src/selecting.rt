@@ -5,10 +5,10 @@ ghost use Rattle.rules.specs.Vertical as Vertical;
 ghost use Rattle.vertical_planes.specs.Ends.{Masked};
 ghost use Rattle.vertical_planes.specs.Chosen.{chosen, lanes64};
 
-use compare::bands::Band;
 use crate::ends::{bits_of, spread};
 use crate::four::{FourCompared, compare_four};
 use crate::groups::compare;
+use compare::bands::Band;
 use words::stores::{store_low, store8};
 
 // The lanes of group g that the band selects, a bit for each.

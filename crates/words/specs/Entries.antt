@@ -1,5 +1,5 @@
 -- The laws of a page's fields: through a window of bytes, of a part of the page, with zeros behind it.
-use Rattle.std.specs.Prelude.{◌≡◌, refl, List, ℕ, zero, suc, ◌+◌, ◌-◌, ◌*◌, ◌/◌, ◌%◌, ◌^◌, ◌≤◌, ◌<◌, length, take, drop, get_or}
+use Rattle.std.specs.Prelude.{◌≡◌, refl, List, ℕ, zero, suc, ◌+◌, ◌*◌, ◌/◌, ◌%◌, ◌^◌, ◌≤◌, ◌<◌, length, take, drop, get_or}
 use Rattle.std.proofs.Common.{sym, ap, ap₂, ◌∙◌, lt_of_lt_of_le, suc-mul, mul-le-mul_right, arith, length-drop, get_or-take, get_or-drop, pow_mono}
 use Rattle.rules.specs.Bits.{bit, number, bit_of, bit_at, piece, field}
 use Rattle.rules.specs.Bits.Order.{low_first}

@@ -2,7 +2,6 @@
 use mathlib.Core.Path.{◌≡◌, sym, ap, ap₂, ◌∙◌}
 use mir.Syntax.{w64}
 use mir.ValLaws.{to_z-of_z}
-use borrow.Author.Rules.{rules}
 use Rattle.compare.specs.Band.{band_of}
 use Rattle.arguments.specs.Arguments.{judged, arguments_of, judged-found}
 use Rattle.arguments.proofs.arguments_after.Goals as goal
@@ -20,9 +19,8 @@ judgement : (c : After-band_of-comparison)
     judged 0 c.band_of-comparison.result ≡ arguments_of a.limits a.op a.a a.b
 unfolding arguments_of
 judgement c =
-    let s = c in
     let chosen =
-    rw (to_z-of_z w64 s.args.a s.ranges.a, to_z-of_z w64 s.args.b s.ranges.b) at c.band_of-comparison.ensures in
+    rw (to_z-of_z w64 c.args.a c.ranges.a, to_z-of_z w64 c.args.b c.ranges.b) at c.band_of-comparison.ensures in
     ap₂ judged (sym c.if-limits-ne0.false) chosen
 
 pub returns-in_default : goal.returns-in_default

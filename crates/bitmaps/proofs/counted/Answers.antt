@@ -1,6 +1,5 @@
 -- `bitmaps::counted` meets its contract: the count is that of the bitmap's own bytes.
 use mathlib.Core.Path.{ap}
-use borrow.Author.Rules.{rules}
 use Rattle.rules.specs.Answer.{accepted}
 use Rattle.bitmaps.proofs.counted.Goals as goal
 

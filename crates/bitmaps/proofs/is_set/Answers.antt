@@ -5,7 +5,6 @@ use Prim.Native.Nat.{ℕ, ◌/◌, ◌%◌, ◌^◌, ◌<◌}
 use native.Mathlib.Omega.{arith}
 use lib.Dec.{eqb}
 use lib.ListN.{get_or, get_or-eq_default}
-use borrow.Author.Rules.{rules}
 use borrow.Author.Tests.{eqb-true, eqb-false}
 use Rattle.rules.specs.Bits.{bit, bit_of, bit_at, flag}
 use Rattle.words.specs.Bits.{bit_of_zero}
@@ -22,15 +21,13 @@ flag-of-bit x h = go (eqb x 1) refl
 pub returns-then-bitmap-k : goal.returns-then-bitmap-k
 unfolding bit_at bit_of
 returns-then-bitmap-k c =
-    let s = c in
-    let i = s.args.i in
+    let i = c.args.i in
     sym
-    (ap (λ (x : ℕ). bit x (i % 8)) (get_or-eq_default s.args.bitmap.now 0 {n = i / 8} (omega arith))
+    (ap (λ (x : ℕ). bit x (i % 8)) (get_or-eq_default c.args.bitmap.now 0 {n = i / 8} (omega arith))
     ∙ bit_of_zero (i % 8))
 
 pub returns : goal.returns
 unfolding bit_at bit_of bit
 returns c =
-    let s = c in
-    let b = get_or s.args.bitmap.now (s.args.i / 8) 0 in
-    flag-of-bit (b / 2 ^ (s.args.i % 8) % 2) (omega arith)
+    let b = get_or c.args.bitmap.now (c.args.i / 8) 0 in
+    flag-of-bit (b / 2 ^ (c.args.i % 8) % 2) (omega arith)

@@ -1,8 +1,8 @@
 -- `bitmaps::ones_in` meets its contract. Both loops keep one invariant: the ones are those of the bytes passed.
 use mathlib.Core.Path.{◌≡◌, ap}
-use Prim.Native.Nat.{◌+◌, ◌-◌, ◌*◌, ◌/◌, ◌≤◌}
+use Prim.Native.Nat.{◌+◌, ◌*◌, ◌/◌, ◌≤◌}
 use native.Mathlib.Omega.{arith}
-use lib.ListN.{take, get_or}
+use lib.ListN.{get_or}
 use lib.Count.{ones, ones-le}
 use Rattle.words.specs.Bytes.{number-one}
 use Rattle.bitmaps.specs.Counts.{count_ones, count-take}
@@ -22,7 +22,7 @@ loop-k-preserved c =
     let l = c.loop-k in
     let most : ones c.load8.result ≤ 64 = ones-le 64 c.load8.result (omega arith) in
     let more =
-    count-take a.bitmap.now (8 * l.k) 8 (λ i. (c.shared_slice_known-1.given i).fits)
+    count-take a.bitmap.now (8 * l.k) 8 (λ i. (c.type_inv.bitmap i).fits)
     in
     let next : 8 * (l.k + 1) ≡ 8 * l.k + 8 = omega arith in
     (omega arith, omega arith, omega arith, rw next (omega (arith, more, ap ones c.load8.ensures)))

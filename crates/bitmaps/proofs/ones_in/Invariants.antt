@@ -1,11 +1,8 @@
 -- `bitmaps::ones_in` meets its contract. Both loops keep one invariant: the ones are those of the bytes passed.
-use mathlib.Core.Path.{◌≡◌, ap}
-use Prim.Native.Nat.{◌+◌, ◌-◌, ◌*◌, ◌/◌, ◌≤◌}
-use native.Mathlib.Omega.{arith}
-use lib.ListN.{take, get_or}
-use lib.Count.{ones, ones-le}
-use Rattle.words.specs.Bytes.{number-one}
-use Rattle.bitmaps.specs.Counts.{count_ones, count-take}
+use mathlib.Core.Path.{◌≡◌}
+use Prim.Native.Nat.{◌-◌, ◌*◌, ◌/◌, ◌≤◌}
+use lib.ListN.{take}
+use Rattle.bitmaps.specs.Counts.{count_ones}
 use Rattle.bitmaps.proofs.ones_in.Given as goal
 
 abbrev pub invariant-loop-k : goal.invariant-loop-k

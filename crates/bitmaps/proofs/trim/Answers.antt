@@ -3,7 +3,6 @@ use Prim.Native.Nat.{◌%◌}
 use native.Mathlib.Omega.{arith}
 use lib.Pow.{pow_pos}
 use borrow.Author.Tests.{eq-eqb, ne_eqb}
-use borrow.Author.Rules.{rules}
 use Rattle.words.specs.Bits.{one_shl}
 use Rattle.bitmaps.specs.Trimmed.{trim_none, trim_some}
 use Rattle.bitmaps.proofs.trim.Goals as goal

@@ -1,6 +1,5 @@
 -- `limits::signed_fault` meets its contract: the kind is made of the number.
 use mathlib.Core.Path.{ap, ◌∙◌}
-use borrow.Author.Rules.{rules}
 use Rattle.rules.specs.Answer.{count_fault}
 use Rattle.limits.proofs.signed_fault.Goals as goal
 

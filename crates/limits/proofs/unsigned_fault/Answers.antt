@@ -1,6 +1,5 @@
 -- `limits::unsigned_fault` meets its contract: the kind is made of the two numbers.
 use mathlib.Core.Path.{ap₂, ◌∙◌}
-use borrow.Author.Rules.{rules}
 use Rattle.rules.specs.Answer.{limit_fault}
 use Rattle.limits.proofs.unsigned_fault.Goals as goal
 

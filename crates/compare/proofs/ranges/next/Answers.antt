@@ -1,5 +1,5 @@
 -- `compare::ranges::next` meets its contract: one more than those below, unless z is below them all.
-use Rattle.std.proofs.Common.{◌≡◌, ℕ, ◌+◌, min, sym, ap, ◌∙◌, w64, to_z, of_z, rules}
+use Rattle.std.proofs.Common.{◌≡◌, ℕ, ◌+◌, min, sym, ap, ◌∙◌, w64, to_z, of_z}
 use mir.ValLaws.{to_z-of_z}
 use Rattle.compare.specs.Cuts.{next_neg, next-cut}
 use Rattle.compare.proofs.ranges.next.Goals as goal
@@ -14,6 +14,5 @@ returns-then-z-lt0 c = next_neg c.args.z (rw (back c.before) at c.if-z-lt0.true)
 
 pub returns : goal.returns
 returns c =
-    let e = c in
-    c.one_more.ensures ∙ ap (λ (n : ℕ). min (n + 1) 4294967296) (rw (back e.before.before.before) at c.cut.ensures)
-    ∙ sym (next-cut e.args.z (rw (back e.before.before.before) at e.if-z-lt0.false))
+    c.one_more.ensures ∙ ap (λ (n : ℕ). min (n + 1) 4294967296) (rw (back c.before.before.before) at c.cut.ensures)
+    ∙ sym (next-cut c.args.z (rw (back c.before.before.before) at c.if-z-lt0.false))

@@ -1,5 +1,5 @@
 -- `compare::ranges::passes` meets its contract: a difference that wraps is at most span just inside the range.
-use Rattle.std.proofs.Common.{◌≡◌, ◌+◌, not, leb, ap, arith, rules, le-ltb, lt-ltb}
+use Rattle.std.proofs.Common.{◌≡◌, ◌+◌, not, leb, ap, arith, le-ltb, lt-ltb}
 use Rattle.compare.specs.Range.{inside, ranged}
 use Rattle.compare.specs.Inside.{by_difference}
 use Rattle.compare.proofs.ranges.passes.Goals as goal

@@ -1,6 +1,6 @@
 -- `compare::ranges::range_of` meets its contract: the band's ends are read back from their bits, and the last is at
 -- most 2^32.
-use Rattle.std.proofs.Common.{◌∙◌, w64, to_z, of_z, rules}
+use Rattle.std.proofs.Common.{◌∙◌, w64, to_z, of_z}
 use mir.ValLaws.{to_z-of_z}
 use Rattle.compare.specs.Range.{range_of}
 use Rattle.compare.specs.Cuts.{next_le}
@@ -13,9 +13,8 @@ range_to-requires c =
 pub returns : goal.returns
 unfolding range_of
 returns c =
-    let s = c in
-    let band = s.args.band in
-    let fits = s.struct_told-1.given in
+    let band = c.args.band in
+    let fits = c.struct_told-1.given in
     c.range_to.ensures
     ∙ rw (
       c.cut.ensures,

@@ -1,5 +1,5 @@
 -- `compare::signed_ranges::next` meets its contract: one more than those below, unless z is below them all.
-use Rattle.std.proofs.Common.{◌≡◌, ℕ, ◌+◌, min, sym, ap, ◌∙◌, w64, to_z, of_z, rules}
+use Rattle.std.proofs.Common.{◌≡◌, ℕ, ◌+◌, min, sym, ap, ◌∙◌, w64, to_z, of_z}
 use mir.ValLaws.{to_z-of_z}
 use Rattle.compare.specs.SignedCuts.{signed-next-low, signed-next-cut}
 use Rattle.compare.proofs.signed_ranges.next.Goals as goal
@@ -14,6 +14,5 @@ returns-then-z-ltminus2147483648 c = signed-next-low c.args.z (rw (back c.before
 
 pub returns : goal.returns
 returns c =
-    let e = c in
-    c.one_more.ensures ∙ ap (λ (n : ℕ). min (n + 1) 4294967296) (rw (back e.before.before.before) at c.cut.ensures)
-    ∙ sym (signed-next-cut e.args.z (rw (back e.before.before.before) at e.if-z-ltminus2147483648.false))
+    c.one_more.ensures ∙ ap (λ (n : ℕ). min (n + 1) 4294967296) (rw (back c.before.before.before) at c.cut.ensures)
+    ∙ sym (signed-next-cut c.args.z (rw (back c.before.before.before) at c.if-z-ltminus2147483648.false))

@@ -1,6 +1,6 @@
 -- `compare::signed_ranges::signed_range_of` meets its contract: the band's ends are read back from their bits, and
 -- the last is at most 2^32.
-use Rattle.std.proofs.Common.{◌∙◌, w64, rules}
+use Rattle.std.proofs.Common.{◌∙◌, w64}
 use mir.ValLaws.{to_z-of_z}
 use Rattle.compare.specs.SignedRange.{signed_range_of}
 use Rattle.compare.specs.SignedCuts.{signed-next_le}
@@ -12,9 +12,8 @@ range_to-requires c = rw c.next.ensures (signed-next_le 32 _)
 pub returns : goal.returns
 unfolding signed_range_of
 returns c =
-    let s = c in
-    let band = s.args.band in
-    let fits = s.struct_told-1.given in
+    let band = c.args.band in
+    let fits = c.struct_told-1.given in
     c.range_to.ensures
     ∙ rw (
       c.cut.ensures,

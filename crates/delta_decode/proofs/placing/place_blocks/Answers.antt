@@ -106,7 +106,7 @@ returns-in-Unlaid c =
     (never
     (refused c.loop-left-test.true l.invariant.1.comes
     (block_is a.size a.minis l.left a.page.now l.at c.needed_of-need.ensures c.block_at-block.ensures
-        ∙ c.in-Unlaid.is)))
+    ∙ c.in-Unlaid.is)))
 
 -- no delta is left
 pub returns-then-i-n : goal.returns-then-i-n
@@ -126,4 +126,4 @@ returns-else-i-n c =
     let a = c.args in
     let none : l.left ≡ 0 = omega arith in
     pass-end (places 32) 32 a.page.now a.size a.minis a.n a.from _ a.entries.now
-        (rw none at l.invariant.1) c.if-i-n.false
+    (rw none at l.invariant.1) c.if-i-n.false

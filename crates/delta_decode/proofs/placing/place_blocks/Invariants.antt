@@ -12,7 +12,7 @@ abbrev pub invariant-loop-left : goal.invariant-loop-left
 invariant-loop-left l =
     (length l.entries ≡ length l.initial.entries)
     × Pass (places 32) 32 l.page l.size l.minis l.n l.from
-        (deltas_of (blocks_at 32 l.size l.minis (l.n - 1) (l.n - 1) l.page l.start))
+    (deltas_of (blocks_at 32 l.size l.minis (l.n - 1) (l.n - 1) l.page l.start))
     l.initial.entries l.left l.at l.i l.x l.entries
 
 abbrev pub decreases-loop-left : goal.decreases-loop-left

@@ -108,7 +108,7 @@ returns-in-Unlaid c =
     (never
     (refused c.loop-left-test.true l.invariant.1.comes
     (block_is a.size a.minis l.left a.page.now l.at c.needed_of-need.ensures c.block_at-block.ensures
-        ∙ c.in-Unlaid.is)))
+    ∙ c.in-Unlaid.is)))
 
 -- no delta is left
 pub returns-then-i-n : goal.returns-then-i-n
@@ -117,7 +117,7 @@ returns-then-i-n c =
     let a = c.args in
     let none : l.left ≡ 0 = omega arith in
     pass-last (selects (ranged a.range)) 32 a.page.now a.size a.minis a.n a.from _ a.bitmap.now
-        (rw none at l.invariant.1)
+    (rw none at l.invariant.1)
     (selects-more (ranged a.range) 0 a.bitmap.now a.n (omega arith) (omega (arith, c.requires.3))) c.if-i-n.true
     (selects-bit (ranged a.range) l.i l.bitmap l.x c.passes.result (omega (arith, l.invariant.0)) c.passes.ensures)
 
@@ -127,4 +127,4 @@ returns-else-i-n c =
     let a = c.args in
     let none : l.left ≡ 0 = omega arith in
     pass-end (selects (ranged a.range)) 32 a.page.now a.size a.minis a.n a.from _ a.bitmap.now
-        (rw none at l.invariant.1) c.if-i-n.false
+    (rw none at l.invariant.1) c.if-i-n.false

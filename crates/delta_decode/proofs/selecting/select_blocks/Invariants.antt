@@ -14,7 +14,7 @@ invariant-loop-left l =
     (length l.bitmap ≡ length l.initial.bitmap)
     × Pass (selects (ranged l.range)) 32 l.page l.size l.minis l.n l.from
     (deltas_of (blocks_at 32 l.size l.minis (l.n - 1) (l.n - 1) l.page l.start)) l.initial.bitmap l.left l.at l.i
-        l.x l.bitmap
+    l.x l.bitmap
 
 abbrev pub decreases-loop-left : goal.decreases-loop-left
 decreases-loop-left l = l.left

@@ -85,5 +85,5 @@ returns c =
     let all : l.q ≡ a.block.need = omega arith in
     let p =
     turn_end (selects (ranged a.range)) 32 a.page.now a.block a.from a.room a.i a.bitmap.now
-        (rw all at l.invariant.2) in
+    (rw all at l.invariant.2) in
     record { entry = p.entry; wrote = p.wrote }

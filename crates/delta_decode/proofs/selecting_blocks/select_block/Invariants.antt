@@ -11,7 +11,7 @@ abbrev pub invariant-loop-q : goal.invariant-loop-q
 invariant-loop-q l =
     (l.q ≤ l.block.need) × (length l.bitmap ≡ length l.initial.bitmap)
     × Turn (selects (ranged l.range)) 32 l.page l.block l.from l.room l.i l.initial.bitmap l.q l.at l.done l.x
-        l.bitmap
+    l.bitmap
 
 abbrev pub decreases-loop-q : goal.decreases-loop-q
 decreases-loop-q l = l.block.need - l.q

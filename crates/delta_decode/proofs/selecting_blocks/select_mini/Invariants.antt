@@ -12,7 +12,7 @@ abbrev pub invariant-loop-j : goal.invariant-loop-j
 invariant-loop-j l =
     (l.j % 8 ≡ 0) × (l.j ≤ l.k + 7) × (length l.bitmap ≡ length l.initial.bitmap)
     × Passed (selects (ranged l.range)) 32 l.from (packed_step l.least l.body l.w) l.i l.initial.bitmap
-        (min l.j l.k) l.x l.bitmap
+    (min l.j l.k) l.x l.bitmap
 
 abbrev pub decreases-loop-j : goal.decreases-loop-j
 decreases-loop-j l = l.k - l.j

@@ -9,7 +9,7 @@ abbrev pub invariant-loop-u : goal.invariant-loop-u
 invariant-loop-u l =
     (l.u ≤ l.k) × (length l.entries ≡ length l.initial.entries)
     × Passed (places 32) 32 l.from (λ e. packed_step l.least l.body l.w (l.j + e)) l.i l.initial.entries l.u l.x
-        l.entries
+    l.entries
 
 abbrev pub decreases-loop-u : goal.decreases-loop-u
 decreases-loop-u l = l.k - l.u

@@ -9,7 +9,7 @@ use Rattle.delta_octets.proofs.testing.test_whole.Given as goal
 abbrev pub invariant-loop-j : goal.invariant-loop-j
 invariant-loop-j l =
     (l.j ≤ 8) × Tested 32 (λ u. ranged l.range ((u + l.range.low) % 2 ^ 32)) l.initial.y
-        (step_from l.least l.body l.at l.w) l.j l.bits l.y
+    (step_from l.least l.body l.at l.w) l.j l.bits l.y
 
 abbrev pub decreases-loop-j : goal.decreases-loop-j
 decreases-loop-j l = 8 - l.j

@@ -83,8 +83,11 @@ low page widths need total bytes is few =
 pub overflow_mul-bodies : goal.overflow_mul-bodies
 overflow_mul-bodies c =
     let a = c.args in
-    omega (arith, few a.m _ (omega arith) (low a.page.now _ a.need _ c.type_inv.page c.width_sum.ensures
-        (omega arith)))
+    omega (
+      arith,
+      few a.m _ (omega arith) (low a.page.now _ a.need _ c.type_inv.page c.width_sum.ensures
+          (omega arith)),
+    )
 
 pub overflow_add-widths : goal.overflow_add-widths
 overflow_add-widths c =
@@ -138,7 +141,7 @@ pub overflow_add-result-2 : goal.overflow_add-result-2
 overflow_add-result-2 c =
     let a = c.args in
     let small = few a.m _ (omega arith) (low a.page.now _ a.need _ c.type_inv.page c.width_sum.ensures
-        (omega arith)) in
+    (omega arith)) in
     omega (
       arith,
       small,

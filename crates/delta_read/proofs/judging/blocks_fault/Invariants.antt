@@ -9,7 +9,7 @@ use Rattle.delta_read.proofs.judging.blocks_fault.Given as goal
 abbrev pub invariant-loop-left : goal.invariant-loop-left
 invariant-loop-left l =
     (l.left ≤ 16384) × Comes (blocks_at 32 l.size l.minis l.deltas l.deltas l.page l.from) 32 l.size l.minis l.left
-        l.page l.at
+    l.page l.at
 
 abbrev pub decreases-loop-left : goal.decreases-loop-left
 decreases-loop-left l = l.left

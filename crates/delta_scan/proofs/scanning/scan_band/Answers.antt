@@ -25,7 +25,7 @@ select-requires c =
     ≡ (room_fault (length a.bitmap.now) (ceil a.n 8) then page_fault (read 32 a.n a.page.now)) = cc in
     let good : let a = c.args in
     (ceil a.n 8 ≤ length a.bitmap.now) × (page_fault (read 32 a.n a.page.now) ≡ 0) = let z =
-        then_zero _ _ (sym (found) ∙ c.if-code-ne0.false) in
+    then_zero _ _ (sym (found) ∙ c.if-code-ne0.false) in
     (has_room _ _ z.0, z.1) in
     let s = c in
     let g = good in (
@@ -42,7 +42,7 @@ counted-requires c =
     ≡ (room_fault (length a.bitmap.now) (ceil a.n 8) then page_fault (read 32 a.n a.page.now)) = cc in
     let good : let a = c.args in
     (ceil a.n 8 ≤ length a.bitmap.now) × (page_fault (read 32 a.n a.page.now) ≡ 0) = let z =
-        then_zero _ _ (sym (found) ∙ c.if-code-ne0.false) in
+    then_zero _ _ (sym (found) ∙ c.if-code-ne0.false) in
     (has_room _ _ z.0, z.1) in
     let s = c in
     let e = s in

@@ -11,7 +11,7 @@ loop-i-init c =
     let a = c.args in
     let ds = deltas 32 a.entries.now in
     let first = kept w32 c.delta_at-least.result (record { sfits = c.delta_at-least.type_inv })
-        ∙ c.delta_at-least.ensures in (
+    ∙ c.delta_at-least.ensures in (
       omega arith,
       omega arith,
       rw first
@@ -28,7 +28,7 @@ loop-i-preserved c =
     kept w32 c.delta_at.result (record { sfits = c.delta_at.type_inv })
     ∙ c.delta_at.ensures in
     let found = kept w32 c.lesser-least.result (record { sfits = c.lesser-least.type_inv })
-        ∙ rw next at c.lesser-least.ensures in
+    ∙ rw next at c.lesser-least.ensures in
     let more =
     least_more ds (to_z w32 l.least-bits) (a.from + l.i) (a.k - l.i)
     (omega (arith, length-deltas 32 a.entries.now)) (omega arith) in

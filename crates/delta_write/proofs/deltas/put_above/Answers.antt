@@ -15,12 +15,12 @@ above-requires c =
     let delta : let a = c.args in
     to_z w32 (of_z w32 c.delta_at.result)
     ≡ get_or (deltas 32 a.entries.now) (a.from + c.loop-i.i) (pos 0) =
-        kept w32 c.delta_at.result (record { sfits = c.delta_at.type_inv }) ∙ c.delta_at.ensures in
+    kept w32 c.delta_at.result (record { sfits = c.delta_at.type_inv }) ∙ c.delta_at.ensures in
     let smallest : let a = c.args in
     to_z w32 (of_z w32 a.smallest) ≡ least (take a.k (drop a.from (deltas 32 a.entries.now))) =
-        kept w32 c.args.smallest c.ranges.smallest ∙ c.requires.3 in
+    kept w32 c.args.smallest c.ranges.smallest ∙ c.requires.3 in
     let within : let a = c.args in a.from + a.k ≤ length (deltas 32 a.entries.now) =
-        omega (arith, length-deltas 32 c.args.entries.now) in
+    omega (arith, length-deltas 32 c.args.entries.now) in
     let s = c in
     let a = s.args in
     rw (delta, smallest)
@@ -32,12 +32,12 @@ loop-i-preserved c =
     let delta : let a = c.args in
     to_z w32 (of_z w32 c.delta_at.result)
     ≡ get_or (deltas 32 a.entries.now) (a.from + c.loop-i.i) (pos 0) =
-        kept w32 c.delta_at.result (record { sfits = c.delta_at.type_inv }) ∙ c.delta_at.ensures in
+    kept w32 c.delta_at.result (record { sfits = c.delta_at.type_inv }) ∙ c.delta_at.ensures in
     let smallest : let a = c.args in
     to_z w32 (of_z w32 a.smallest) ≡ least (take a.k (drop a.from (deltas 32 a.entries.now))) =
-        kept w32 c.args.smallest c.ranges.smallest ∙ c.requires.3 in
+    kept w32 c.args.smallest c.ranges.smallest ∙ c.requires.3 in
     let within : let a = c.args in a.from + a.k ≤ length (deltas 32 a.entries.now) =
-        omega (arith, length-deltas 32 c.args.entries.now) in
+    omega (arith, length-deltas 32 c.args.entries.now) in
     let d = c in
     let l = d.loop-i in
     let s = d in
@@ -57,7 +57,7 @@ loop-i-preserved c =
 pub returns : goal.returns
 returns c =
     let within : let a = c.args in a.from + a.k ≤ length (deltas 32 a.entries.now) =
-        omega (arith, length-deltas 32 c.args.entries.now) in
+    omega (arith, length-deltas 32 c.args.entries.now) in
     let l = c.loop-i in
     let s = c in
     let a = s.args in

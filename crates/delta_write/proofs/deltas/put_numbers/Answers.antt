@@ -8,5 +8,8 @@ pub returns : goal.returns
 returns c =
     let p = c in
     let l = p.least_of-smallest in
-        record { stored = p.put_above.ensures; smallest = c.zigzag.ensures
-        ∙ ap zigzag_of (kept w32 l.result (record { sfits = l.type_inv }) ∙ l.ensures) }
+    record {
+      stored = p.put_above.ensures;
+      smallest = c.zigzag.ensures
+          ∙ ap zigzag_of (kept w32 l.result (record { sfits = l.type_inv }) ∙ l.ensures);
+    }

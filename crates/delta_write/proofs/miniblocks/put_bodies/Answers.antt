@@ -46,5 +46,7 @@ returns c =
     let l = c.loop-j in
     let a = c.args in
     let all : l.j ≡ 4 = omega arith in
-        record { stored = l.invariant.3 ∙ ap (λ (j : ℕ). put a.page.now a.at (bodies j 32 a.numbers.now)) all;
-        next = l.invariant.2 ∙ ap (λ (j : ℕ). a.at + length (bodies j 32 a.numbers.now)) all }
+    record {
+      stored = l.invariant.3 ∙ ap (λ (j : ℕ). put a.page.now a.at (bodies j 32 a.numbers.now)) all;
+      next = l.invariant.2 ∙ ap (λ (j : ℕ). a.at + length (bodies j 32 a.numbers.now)) all;
+    }

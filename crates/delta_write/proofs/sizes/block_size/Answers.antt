@@ -23,7 +23,7 @@ sized c =
     let a = p.args in
     let ds = take a.k (drop a.from (deltas 32 a.entries.now)) in
     let n = numbered 32 ds (rw length-take (omega arith)) p.put_numbers-smallest.ensures.stored
-        p.put_numbers-smallest.ensures.smallest in
+    p.put_numbers-smallest.ensures.smallest in
     omega (arith, s.size_of.ensures, c.bodies_size.ensures, n.size)
 
 pub overflow_add-result-2 : goal.overflow_add-result-2

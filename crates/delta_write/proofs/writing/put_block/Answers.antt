@@ -28,7 +28,7 @@ put_widths-requires c =
     c.put_numbers-smallest.ensures.stored c.put_numbers-smallest.ensures.smallest in
     let one : let p = c in let a = p.args in
     Stored a.page.now a.at (shortest p.put_numbers-smallest.result) c.put_number-widths.new.page
-        c.put_number-widths.result = let p = c in
+    c.put_number-widths.result = let p = c in
     let a = p.args in
     let n = made in
     stored-first a.page.now a.at (shortest p.put_numbers-smallest.result) c.put_number-widths.ensures.stored
@@ -47,7 +47,7 @@ overflow_add-widths c =
     c.put_numbers-smallest.ensures.stored c.put_numbers-smallest.ensures.smallest in
     let one : let p = c in let a = p.args in
     Stored a.page.now a.at (shortest p.put_numbers-smallest.result) c.put_number-widths.new.page
-        c.put_number-widths.result = let p = c in
+    c.put_number-widths.result = let p = c in
     let a = p.args in
     let n = made in
     stored-first a.page.now a.at (shortest p.put_numbers-smallest.result) c.put_number-widths.ensures.stored
@@ -67,7 +67,7 @@ put_bodies-requires c =
     c.put_numbers-smallest.ensures.stored c.put_numbers-smallest.ensures.smallest in
     let one : let p = c in let a = p.args in
     Stored a.page.now a.at (shortest p.put_numbers-smallest.result) c.put_number-widths.new.page
-        c.put_number-widths.result = let p = c in
+    c.put_number-widths.result = let p = c in
     let a = p.args in
     let n = made in
     stored-first a.page.now a.at (shortest p.put_numbers-smallest.result) c.put_number-widths.ensures.stored
@@ -98,7 +98,7 @@ returns c =
     c.put_numbers-smallest.ensures.stored c.put_numbers-smallest.ensures.smallest in
     let one : let p = c in let a = p.args in
     Stored a.page.now a.at (shortest p.put_numbers-smallest.result) c.put_number-widths.new.page
-        c.put_number-widths.result = let p = c in
+    c.put_number-widths.result = let p = c in
     let a = p.args in
     let n = made in
     stored-first a.page.now a.at (shortest p.put_numbers-smallest.result) c.put_number-widths.ensures.stored

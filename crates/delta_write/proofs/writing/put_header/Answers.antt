@@ -15,7 +15,7 @@ put_number-count-requires c =
     stored-first s.args.page.now 0 (shortest 128) c.put_number-minis.ensures.stored c.put_number-minis.ensures.next
     (omega (arith, length-header s.args.entries.now)) in
     let room2 : c.put_number-minis.result + length (shortest 4) ≤ length c.put_number-minis.new.page = let o =
-        one in omega (arith, length-header c.args.entries.now) in
+    one in omega (arith, length-header c.args.entries.now) in
     room2
 
 pub put_number-first-requires : goal.put_number-first-requires
@@ -25,14 +25,14 @@ put_number-first-requires c =
     stored-first s.args.page.now 0 (shortest 128) c.put_number-minis.ensures.stored c.put_number-minis.ensures.next
     (omega (arith, length-header s.args.entries.now)) in
     let room2 : c.put_number-minis.result + length (shortest 4) ≤ length c.put_number-minis.new.page = let o =
-        one in omega (arith, length-header c.args.entries.now) in
+    one in omega (arith, length-header c.args.entries.now) in
     let two : let s = c in
     Stored s.args.page.now 0 (shortest 128 ++ shortest 4) c.put_number-count.new.page c.put_number-count.result =
-        let o = c in
+    let o = c in
     stored-behind (shortest 4) (one) c.put_number-count.ensures.stored c.put_number-count.ensures.next (room2) in
     let room3 : let s = c in
     c.put_number-count.result + length (shortest (length s.args.entries.now)) ≤ length c.put_number-count.new.page =
-        let s = c in
+    let s = c in
     let o = one in
     let t = two in
     omega (arith, c.put_number-count.ensures.next, length-header s.args.entries.now) in
@@ -45,14 +45,14 @@ put_number-requires c =
     stored-first s.args.page.now 0 (shortest 128) c.put_number-minis.ensures.stored c.put_number-minis.ensures.next
     (omega (arith, length-header s.args.entries.now)) in
     let room2 : c.put_number-minis.result + length (shortest 4) ≤ length c.put_number-minis.new.page = let o =
-        one in omega (arith, length-header c.args.entries.now) in
+    one in omega (arith, length-header c.args.entries.now) in
     let two : let s = c in
     Stored s.args.page.now 0 (shortest 128 ++ shortest 4) c.put_number-count.new.page c.put_number-count.result =
-        let o = c in
+    let o = c in
     stored-behind (shortest 4) (one) c.put_number-count.ensures.stored c.put_number-count.ensures.next (room2) in
     let room3 : let s = c in
     c.put_number-count.result + length (shortest (length s.args.entries.now)) ≤ length c.put_number-count.new.page =
-        let s = c in
+    let s = c in
     let o = one in
     let t = two in
     omega (arith, c.put_number-count.ensures.next, length-header s.args.entries.now) in
@@ -86,14 +86,14 @@ returns c =
     stored-first s.args.page.now 0 (shortest 128) c.put_number-minis.ensures.stored c.put_number-minis.ensures.next
     (omega (arith, length-header s.args.entries.now)) in
     let room2 : c.put_number-minis.result + length (shortest 4) ≤ length c.put_number-minis.new.page = let o =
-        one in omega (arith, length-header c.args.entries.now) in
+    one in omega (arith, length-header c.args.entries.now) in
     let two : let s = c in
     Stored s.args.page.now 0 (shortest 128 ++ shortest 4) c.put_number-count.new.page c.put_number-count.result =
-        let o = c in
+    let o = c in
     stored-behind (shortest 4) (one) c.put_number-count.ensures.stored c.put_number-count.ensures.next (room2) in
     let room3 : let s = c in
     c.put_number-count.result + length (shortest (length s.args.entries.now)) ≤ length c.put_number-count.new.page =
-        let s = c in
+    let s = c in
     let o = one in
     let t = two in
     omega (arith, c.put_number-count.ensures.next, length-header s.args.entries.now) in

@@ -11,7 +11,7 @@ invariant-loop-from l =
     × (l.at + length (all_blocks 32 (drop l.from (deltas 32 l.entries)))
     ≡ l.initial.at + length (all_blocks 32 (deltas 32 l.entries)))
     × (put l.page l.at (all_blocks 32 (drop l.from (deltas 32 l.entries)))
-        ≡ put l.initial.page l.initial.at (all_blocks 32 (deltas 32 l.entries)))
+    ≡ put l.initial.page l.initial.at (all_blocks 32 (deltas 32 l.entries)))
 
 abbrev pub decreases-loop-from : goal.decreases-loop-from
 decreases-loop-from l = length l.entries - l.from

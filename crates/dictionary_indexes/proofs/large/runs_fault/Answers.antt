@@ -47,7 +47,8 @@ loop-i-preserved-in-Repeated c =
       c.loop-i.invariant.1,
       judging-repeated a.w a.n a.page.now (omega arith) c.loop-i.invariant.2 repeated-run,
       on_repeated _ (seeks (leb a.limit)) _ _ _ (omega arith) c.loop-i.invariant.3 repeated-run
-          (seeks-same (leb a.limit) c.loop-i.i c.in-Repeated.count c.in-Repeated.value c.loop-i.large ran.0 c.either-large.ensures),
+          (seeks-same (leb a.limit) c.loop-i.i c.in-Repeated.count c.in-Repeated.value c.loop-i.large ran.0
+          c.either-large.ensures),
     )
 
 pub overflow_mul-groups : goal.overflow_mul-groups

@@ -1,4 +1,6 @@
 -- `dictionary_indexes::large::runs_fault` meets its contract. The loop's invariant: the code is what judging on
+-- from here gives, and what was found with what going on finds is what the pass finds. Each run has an entry, so
+-- fewer are left with each turn.
 use mathlib.Core.Path.{◌≡◌}
 use Prim.Native.Nat.{◌+◌, ◌-◌, ◌≤◌}
 use lib.Dec.{leb}

@@ -1,4 +1,5 @@
 -- `dictionary_indexes::windows::some_in` meets its contract. The loop's invariant: a bit of the sums is set where
+-- the groups passed have an index that is too large.
 use mathlib.Core.Path.{◌≡◌}
 use Prim.Native.Nat.{◌+◌, ◌-◌, ◌*◌, ◌^◌, ◌≤◌}
 use lib.Bits.{bit_and}

@@ -9,7 +9,8 @@ use Rattle.dictionary_scan.proofs.judging.column_fault.Goals as goal
 
 pub returns-then-dictionary-ne0 : goal.returns-then-dictionary-ne0
 unfolding column_fault
-returns-then-dictionary-ne0 c = sym (then_found _ _ _ (sym c.dictionary_fault-dictionary.ensures) c.if-dictionary-ne0.true)
+returns-then-dictionary-ne0 c =
+    sym (then_found _ _ _ (sym c.dictionary_fault-dictionary.ensures) c.if-dictionary-ne0.true)
 
 pub page_fault-requires : goal.page_fault-requires
 page_fault-requires c =

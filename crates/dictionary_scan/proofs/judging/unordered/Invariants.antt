@@ -1,4 +1,5 @@
 -- `dictionary_scan::judging::unordered` meets its contract. The loop's invariant: what was found is what the values
+-- up to k have.
 use mathlib.Core.Path.{◌≡◌}
 use Prim.Native.Nat.{suc, ◌-◌, ◌≤◌}
 use lib.Signed.{le_z}

@@ -1,4 +1,5 @@
 -- `dictionary_scan::searching::place_of` meets its contract. The loop's invariant: the place is neither before
+-- `from` nor behind `to`.
 use Prim.Native.Nat.{◌-◌, ◌/◌, ◌≤◌}
 use lib.ListN.{length}
 use Rattle.dictionary_scan.specs.ValuePlaces.{place_of}

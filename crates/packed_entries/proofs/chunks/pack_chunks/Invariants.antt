@@ -1,4 +1,5 @@
 -- `packed_entries::chunks::pack_chunks` meets its contract: each turn lays k entries, as one number, behind those
+-- that are laid.
 use mathlib.Core.Path.{◌≡◌}
 use Prim.Native.Nat.{◌-◌, ◌*◌, ◌≤◌}
 use lib.ListN.{length, take, drop}

@@ -1,4 +1,5 @@
 -- `packed_entries::chunks::pack_groups` meets its contract: each turn lays a group's page behind those of the
+-- groups before it.
 use mathlib.Core.Path.{◌≡◌}
 use Prim.Native.Nat.{◌-◌, ◌*◌, ◌≤◌}
 use lib.ListN.{length, take}

@@ -1,4 +1,5 @@
 -- `packed_entries::judging::bits_together` meets its contract: the bits of the entries passed reach a power of 2
+-- where one of these entries does.
 use mathlib.Core.Path.{◌≡◌}
 use Prim.Native.Nat.{ℕ, ◌-◌, ◌^◌, ◌≤◌, ◌<◌}
 use lib.Dec.{leb}

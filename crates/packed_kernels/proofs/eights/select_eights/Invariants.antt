@@ -1,4 +1,5 @@
 -- `packed_kernels::eights::select_eights` meets its contract. The loop's invariant: the bytes of the groups passed
+-- are in place.
 use Rattle.std.proofs.Common.{◌-◌}
 use Rattle.packed_kernels.specs.GroupByGroup.{Passed}
 use Rattle.packed_kernels.proofs.eights.select_eights.Given as goal

@@ -1,4 +1,5 @@
 -- `packed_kernels::fours::select_fours` meets its contract. The loop's invariant: the bytes of the groups passed
+-- are in place.
 use Rattle.std.proofs.Common.{◌-◌}
 use Rattle.packed_kernels.specs.GroupByGroup.{Passed}
 use Rattle.packed_kernels.proofs.fours.select_fours.Given as goal

@@ -1,4 +1,5 @@
 -- `runs_mark::packed::mark_inside` meets its contract. The loop's invariant: the entries of g groups of eight are
+-- marked, and `at` is their bytes.
 use mathlib.Core.Path.{◌≡◌}
 use Prim.Native.Nat.{◌-◌, ◌*◌, ◌<◌}
 use lib.ListN.{length}

@@ -1,4 +1,6 @@
 -- `runs_read::judging::stream_fault` meets its contract. The loop's invariant: the code is what judging on from
+-- here gives.
+-- Each run has an entry, so fewer are left with each turn.
 use Prim.Native.Nat.{◌≤◌}
 use Rattle.rules.specs.Runs.{read, stream_fault}
 use Rattle.runs_read.specs.Walks.{Comes}

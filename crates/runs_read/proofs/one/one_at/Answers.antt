@@ -15,24 +15,27 @@ returns-then-limit-ne0 c =
 
 pub returns-then-page-at : goal.returns-then-page-at
 returns-then-page-at c =
-    let limits : let a = c.args in limit_fault a.w a.n ≡ 0 = sym c.unsigned_fault-limit.ensures ∙ c.if-limit-ne0.false in
-    sym (one-past _ _ _ _ _ (limits) c.if-page-at.true)
+    let a = c.args in
+    let limits : limit_fault a.w a.n ≡ 0 = sym c.unsigned_fault-limit.ensures ∙ c.if-limit-ne0.false in
+    sym (one-past _ _ _ _ _ limits c.if-page-at.true)
 
 pub returns-then-n-covered : goal.returns-then-n-covered
 returns-then-n-covered c =
-    let limits : let a = c.args in limit_fault a.w a.n ≡ 0 = sym c.unsigned_fault-limit.ensures ∙ c.if-limit-ne0.false in
-    sym (one-covered _ _ _ _ _ (limits) c.if-page-at.false c.if-n-covered.true)
+    let a = c.args in
+    let limits : limit_fault a.w a.n ≡ 0 = sym c.unsigned_fault-limit.ensures ∙ c.if-limit-ne0.false in
+    sym (one-covered _ _ _ _ _ limits c.if-page-at.false c.if-n-covered.true)
 
 pub run_at-requires : goal.run_at-requires
 run_at-requires c =
-    let limits : let a = c.args in limit_fault a.w a.n ≡ 0 = sym c.unsigned_fault-limit.ensures ∙ c.if-limit-ne0.false in
     let a = c.args in
-    let l = within-limits a.w a.n (limits) in
+    let limits : limit_fault a.w a.n ≡ 0 = sym c.unsigned_fault-limit.ensures ∙ c.if-limit-ne0.false in
+    let l = within-limits a.w a.n limits in
     (l.0, omega arith)
 
 pub returns : goal.returns
 returns c =
-    let limits : let a = c.args in limit_fault a.w a.n ≡ 0 = sym c.unsigned_fault-limit.ensures ∙ c.if-limit-ne0.false in
+    let a = c.args in
+    let limits : limit_fault a.w a.n ≡ 0 = sym c.unsigned_fault-limit.ensures ∙ c.if-limit-ne0.false in
     c.run_at.ensures
     ∙ sym
-    (one-read _ _ _ _ _ (limits) c.if-page-at.false c.if-n-covered.false)
+    (one-read _ _ _ _ _ limits c.if-page-at.false c.if-n-covered.false)

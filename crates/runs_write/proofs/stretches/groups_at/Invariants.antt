@@ -1,4 +1,5 @@
 -- `runs_write::stretches::groups_at` meets its contract: the groups passed, and those that the rest of the 63 take
+-- from here on.
 use mathlib.Core.Path.{◌≡◌}
 use Prim.Native.Nat.{◌+◌, ◌-◌, ◌*◌, ◌≤◌}
 use lib.ListN.{drop}

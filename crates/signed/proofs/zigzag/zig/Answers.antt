@@ -1,5 +1,5 @@
 -- `signed::zigzag::zig` meets its contract: twice a magnitude and one more fit 64 bits.
-use Rattle.std.proofs.Common.{◌≡◌, ℕ, ◌+◌, ◌*◌, sym, ap, ◌∙◌, arith, w64, rules}
+use Rattle.std.proofs.Common.{◌≡◌, ℕ, ◌+◌, ◌*◌, sym, ap, ◌∙◌, arith, w64}
 use lib.Signed.{mag}
 use Rattle.rules.specs.Signed.{zigzag_of}
 use Rattle.signed.proofs.Signs.{kept, below-zero, from_zero}

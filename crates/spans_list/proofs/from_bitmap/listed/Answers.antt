@@ -16,7 +16,7 @@ unfolding room_fault
 returns-then-is_short c =
     let room : let a = c.args in
     room_fault (length a.places.now) (length (spans a.bitmap.now a.n)) ≡ faulty c.is_short.result 4 =
-        ap (λ (b : Bool). faulty b 4) (sym c.is_short.ensures) in
+    ap (λ (b : Bool). faulty b 4) (sym c.is_short.ensures) in
     let t = c in
     refused_is _ _ _ _ 4 _ c.refused.ensures (room ∙ ap (λ (b : Bool). faulty b 4) t.if-is_short.true)
     (λ z. omega arith)
@@ -39,7 +39,7 @@ unfolding room_fault
 returns c =
     let room : let a = c.args in
     room_fault (length a.places.now) (length (spans a.bitmap.now a.n)) ≡ faulty c.is_short.result 4 =
-        ap (λ (b : Bool). faulty b 4) (sym c.is_short.ensures) in
+    ap (λ (b : Bool). faulty b 4) (sym c.is_short.ensures) in
     let l = c in
     let e = l in
     accepted_is _ _ _ _ _ _ (room ∙ ap (λ (b : Bool). faulty b 4) e.if-is_short.false)

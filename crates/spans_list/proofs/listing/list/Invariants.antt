@@ -11,7 +11,7 @@ abbrev pub invariant-loop-q : goal.invariant-loop-q
 invariant-loop-q l =
     (l.q ≤ l.n / 64) × (l.at ≡ length (turned (selected l.bitmap l.n) (64 * l.q) 0))
     × (l.places ≡ put l.initial.places 0 (turned (selected l.bitmap l.n) (64 * l.q) 0))
-        × (length l.places ≡ length l.initial.places)
+    × (length l.places ≡ length l.initial.places)
 
 abbrev pub decreases-loop-q : goal.decreases-loop-q
 decreases-loop-q l = l.n / 64 - l.q

@@ -18,8 +18,11 @@ returns-then-turns-eq0 c =
     let a = c.args in
     let none : ones a.turns ≡ 0 = ap ones c.if-turns-eq0.true ∙ ones_none in
     let nothing = ap (edges_of (eqb a.carry 1) 64 a.p) c.if-turns-eq0.true ∙ edges_none (eqb a.carry 1) 64 a.p in
-    record { place = omega (arith, none); wrote = put-none a.places.now a.q
-        ∙ ap (put a.places.now a.q) (sym nothing) }
+    record {
+      place = omega (arith, none);
+      wrote = put-none a.places.now a.q
+          ∙ ap (put a.places.now a.q) (sym nothing);
+    }
 
 -- where a stretch ends, and that there is room
 ends : (p turns : ℕ) → 0 < turns → turns < 2 ^ 64

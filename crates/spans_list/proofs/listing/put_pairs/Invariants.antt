@@ -10,7 +10,7 @@ use Rattle.spans_list.proofs.listing.put_pairs.Given as goal
 abbrev pub invariant-loop-left : goal.invariant-loop-left
 invariant-loop-left l =
     Found false 64 l.p l.turns false l.left l.initial.places l.places l.q l.at
-        × (length l.places ≡ length l.initial.places) × (l.left < 2 ^ 64)
+    × (length l.places ≡ length l.initial.places) × (l.left < 2 ^ 64)
 
 abbrev pub decreases-loop-left : goal.decreases-loop-left
 decreases-loop-left l = l.left

@@ -10,7 +10,7 @@ use Rattle.spans_mark.proofs.judging.is_misplaced.Given as goal
 abbrev pub invariant-loop-k : goal.invariant-loop-k
 invariant-loop-k l =
     (l.k ≤ length l.list) × (l.k % 2 ≡ 0)
-        × (misplaced l.n 0 l.list ≡ (l.found || misplaced l.n l.from (drop l.k l.list)))
+    × (misplaced l.n 0 l.list ≡ (l.found || misplaced l.n l.from (drop l.k l.list)))
 
 abbrev pub decreases-loop-k : goal.decreases-loop-k
 decreases-loop-k l = length l.list - l.k

@@ -9,7 +9,7 @@ use Rattle.spans_mark.proofs.marking.mark.Given as goal
 abbrev pub invariant-loop-k : goal.invariant-loop-k
 invariant-loop-k l =
     (l.k ≤ length l.list) × (l.k % 2 ≡ 0) × Marking l.n l.list l.k l.at l.word l.longer l.initial.bitmap l.bitmap
-        × (length l.bitmap ≡ length l.initial.bitmap)
+    × (length l.bitmap ≡ length l.initial.bitmap)
 
 abbrev pub decreases-loop-k : goal.decreases-loop-k
 decreases-loop-k l = length l.list - l.k

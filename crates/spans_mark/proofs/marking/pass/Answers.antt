@@ -44,5 +44,8 @@ returns c =
     let l = c.loop-q in
     let a = c.args in
     let end : l.q ≡ a.to = omega arith in
-        record { word = l.invariant.2 ∙ ap (λ (q : ℕ). passed (q - a.at) a.x a.rest) end; wrote = l.invariant.3
-        ∙ ap (λ (q : ℕ). put a.bitmap.now (8 * a.at) (filled (q - a.at) a.x a.rest)) end }
+    record {
+      word = l.invariant.2 ∙ ap (λ (q : ℕ). passed (q - a.at) a.x a.rest) end;
+      wrote = l.invariant.3
+          ∙ ap (λ (q : ℕ). put a.bitmap.now (8 * a.at) (filled (q - a.at) a.x a.rest)) end;
+    }

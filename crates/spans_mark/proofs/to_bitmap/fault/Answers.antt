@@ -24,7 +24,7 @@ pub returns-then-room-ne0 : goal.returns-then-room-ne0
 returns-then-room-ne0 c =
     let limit : count_fault c.args.n ≡ 0 = sym c.signed_fault-limits.ensures ∙ c.if-limits-ne0.false in
     let even : faulty (not (eqb (length c.args.list.now % 2) 0)) 5 ≡ 0 =
-        ap (λ (b : Bool). faulty (not b) 5) (eq-eqb _ _ c.if-list-ne0.false) in
+    ap (λ (b : Bool). faulty (not b) 5) (eq-eqb _ _ c.if-list-ne0.false) in
     let e = c in
     sym (then_none _ _ (limit) ∙ then_none _ _ (even)
     ∙ then_found _ _ _ (sym c.room_fault-room.ensures) c.if-room-ne0.true)
@@ -33,10 +33,10 @@ pub returns-then-is_misplaced : goal.returns-then-is_misplaced
 returns-then-is_misplaced c =
     let limit : count_fault c.args.n ≡ 0 = sym c.signed_fault-limits.ensures ∙ c.if-limits-ne0.false in
     let even : faulty (not (eqb (length c.args.list.now % 2) 0)) 5 ≡ 0 =
-        ap (λ (b : Bool). faulty (not b) 5) (eq-eqb _ _ c.if-list-ne0.false) in
+    ap (λ (b : Bool). faulty (not b) 5) (eq-eqb _ _ c.if-list-ne0.false) in
     let last : let s = c in faulty
     (misplaced s.args.n 0 s.args.list.now) 18 ≡ faulty c.is_misplaced.result 18 =
-        ap (λ (b : Bool). faulty b 18) (sym c.is_misplaced.ensures) in
+    ap (λ (b : Bool). faulty b 18) (sym c.is_misplaced.ensures) in
     let m = c in
     let e = m in
     sym (then_none _ _ (limit) ∙ then_none _ _ (even)
@@ -47,10 +47,10 @@ pub returns : goal.returns
 returns c =
     let limit : count_fault c.args.n ≡ 0 = sym c.signed_fault-limits.ensures ∙ c.if-limits-ne0.false in
     let even : faulty (not (eqb (length c.args.list.now % 2) 0)) 5 ≡ 0 =
-        ap (λ (b : Bool). faulty (not b) 5) (eq-eqb _ _ c.if-list-ne0.false) in
+    ap (λ (b : Bool). faulty (not b) 5) (eq-eqb _ _ c.if-list-ne0.false) in
     let last : let s = c in faulty
     (misplaced s.args.n 0 s.args.list.now) 18 ≡ faulty c.is_misplaced.result 18 =
-        ap (λ (b : Bool). faulty b 18) (sym c.is_misplaced.ensures) in
+    ap (λ (b : Bool). faulty b 18) (sym c.is_misplaced.ensures) in
     let m = c in
     let e = m in
     sym (then_none _ _ (limit) ∙ then_none _ _ (even)

@@ -7,7 +7,7 @@ use lib.ListN.{drop, get_or}
 use borrow.Author.Tests.{lt-ltb, le-ltb}
 use borrow.Author.Rules.{rules}
 use Rattle.rules.specs.Varint.{uleb, number_at}
-use Rattle.varints.specs.ByteByByte.{scaled, scaled-one, scaled-below, ended, step, final, digit, room}
+use Rattle.varints.specs.ByteByByte.{scaled-one, scaled-below, ended, step, final, digit, room}
 use Rattle.varints.proofs.reading.number_at.Goals as goal
 use Rattle.varints.proofs.reading.number_at.Goals.{Else-b-lt128, Else-fifth-ge16, Then-b-lt128}
 
@@ -20,7 +20,7 @@ pub returns-then-page-i : goal.returns-then-page-i
 returns-then-page-i c = let l = c.loop-left in rw (l.invariant.0, ended 16 l.left _ l.i c.if-page-i.true)
 
 pub overflow_cast-b : goal.overflow_cast-b
-overflow_cast-b c = omega (arith, c.shared_slice_known-1.given c.loop-left.i)
+overflow_cast-b c = omega (arith, c.type_inv.page c.loop-left.i)
 
 -- a last byte leaves room for the sum
 low : (c : Then-b-lt128)
@@ -87,13 +87,13 @@ pub returns-then-page-i-2 : goal.returns-then-page-i-2
 returns-then-page-i-2 c = let l = c.loop-left in rw (l.invariant.0, ended 16 l.left _ l.i c.if-page-i-2.true)
 
 pub overflow_cast-fifth : goal.overflow_cast-fifth
-overflow_cast-fifth c = omega (arith, c.shared_slice_known-2-1.given c.loop-left.i)
+overflow_cast-fifth c = omega (arith, c.type_inv.page c.loop-left.i)
 
 pub returns-then-fifth-ge16 : goal.returns-then-fifth-ge16
 returns-then-fifth-ge16 c =
     let l = c.loop-left in
     let z : l.left ≡ 0 = omega arith in
-    rw (l.invariant.0, z, final 16 _ l.i c.if-page-i-2.false, le-ltb _ 16 c.if-fifth-ge16.true)
+    rw (l.invariant.0, z, final 16 _ l.i c.if-page-i-2.false, le-ltb (get_or c.args.page.now l.i 0) 16 (omega arith))
 
 -- a fifth byte below 16 makes a number of 32 bits
 fits : (c : Else-fifth-ge16)
@@ -103,7 +103,7 @@ fits c =
     let l = c.loop-left in
     let z : l.left ≡ 0 = omega arith in
     let e : l.scale * 1 ≡ 2 ^ 28 = rw z at l.invariant.2 in
-    omega (arith, digit l.scale _ 16 c.if-fifth-ge16.false)
+    omega (arith, digit l.scale (get_or c.args.page.now l.i 0) 16 (omega arith))
 
 pub overflow_mul-result-2 : goal.overflow_mul-result-2
 overflow_mul-result-2 c = omega (arith, fits c)
@@ -115,4 +115,4 @@ pub returns : goal.returns
 returns c =
     let l = c.loop-left in
     let z : l.left ≡ 0 = omega arith in
-    rw (l.invariant.0, z, final 16 _ l.i c.if-page-i-2.false, lt-ltb _ 16 c.if-fifth-ge16.false)
+    rw (l.invariant.0, z, final 16 _ l.i c.if-page-i-2.false, lt-ltb (get_or c.args.page.now l.i 0) 16 (omega arith))

@@ -1,12 +1,10 @@
 -- `varints::reading::number_at` meets its contract: the sum below its weight is what the bytes passed spell, and
+-- the rest is read above it.
 use mathlib.Core.Path.{◌≡◌}
-use Prim.Native.Nat.{◌+◌, ◌*◌, ◌-◌, ◌%◌, ◌^◌, ◌<◌, ◌≤◌}
-use native.Mathlib.Omega.{arith}
-use lib.ListN.{drop, get_or}
-use borrow.Author.Tests.{lt-ltb, le-ltb}
-use borrow.Author.Rules.{rules}
+use Prim.Native.Nat.{◌*◌, ◌^◌, ◌<◌}
+use lib.ListN.{drop}
 use Rattle.rules.specs.Varint.{uleb, number_at}
-use Rattle.varints.specs.ByteByByte.{scaled, scaled-one, scaled-below, ended, step, final, digit, room}
+use Rattle.varints.specs.ByteByByte.{scaled}
 use Rattle.varints.proofs.reading.number_at.Given as goal
 
 abbrev pub invariant-loop-left : goal.invariant-loop-left

@@ -1,11 +1,8 @@
 -- `varints::writing::put_number` meets its contract: each turn stores seven bits, and what is left is to be put
 -- behind them.
-use mathlib.Core.Path.{◌≡◌, refl, ◌∙◌}
-use Prim.Native.Nat.{◌+◌}
+use mathlib.Core.Path.{refl, ◌∙◌}
 use native.Mathlib.Omega.{arith}
-use lib.ListN.{length, length-set}
-use Rattle.rules.specs.Bits.{put}
-use Rattle.rules.specs.Shortest.{shortest}
+use lib.ListN.{length-set}
 use Rattle.varints.specs.Shortness.{shortest-some}
 use Rattle.varints.specs.Stored.{stored_more, stored_last}
 use Rattle.varints.proofs.writing.put_number.Goals as goal

@@ -1,12 +1,10 @@
 -- `varints::writing::put_number` meets its contract: each turn stores seven bits, and what is left is to be put
-use mathlib.Core.Path.{◌≡◌, refl, ◌∙◌}
+-- behind them.
+use mathlib.Core.Path.{◌≡◌}
 use Prim.Native.Nat.{◌+◌}
-use native.Mathlib.Omega.{arith}
-use lib.ListN.{length, length-set}
+use lib.ListN.{length}
 use Rattle.rules.specs.Bits.{put}
 use Rattle.rules.specs.Shortest.{shortest}
-use Rattle.varints.specs.Shortness.{shortest-some}
-use Rattle.varints.specs.Stored.{stored_more, stored_last}
 use Rattle.varints.proofs.writing.put_number.Given as goal
 
 abbrev pub invariant-loop-rest : goal.invariant-loop-rest

@@ -1,9 +1,7 @@
 -- `varints::writing::size_of` meets its contract: each turn counts a byte, and takes its seven bits off.
-use mathlib.Core.Path.{◌≡◌, ap}
-use Prim.Native.Nat.{◌+◌}
+use mathlib.Core.Path.{ap}
 use native.Mathlib.Omega.{arith}
 use lib.ListN.{length}
-use Rattle.rules.specs.Shortest.{shortest}
 use Rattle.varints.specs.Shortness.{shortest-last, shortest-more, shortest-some, shortest-size}
 use Rattle.varints.proofs.writing.size_of.Goals as goal
 

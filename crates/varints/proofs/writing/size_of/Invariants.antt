@@ -1,10 +1,8 @@
 -- `varints::writing::size_of` meets its contract: each turn counts a byte, and takes its seven bits off.
-use mathlib.Core.Path.{◌≡◌, ap}
+use mathlib.Core.Path.{◌≡◌}
 use Prim.Native.Nat.{◌+◌}
-use native.Mathlib.Omega.{arith}
 use lib.ListN.{length}
 use Rattle.rules.specs.Shortest.{shortest}
-use Rattle.varints.specs.Shortness.{shortest-last, shortest-more, shortest-some, shortest-size}
 use Rattle.varints.proofs.writing.size_of.Given as goal
 
 abbrev pub invariant-loop-left : goal.invariant-loop-left

@@ -15,31 +15,31 @@ use Rattle.vertical_compare.proofs.ends.start.Goals as goal
 
 pub returns-then-constant-lt0 : goal.returns-then-constant-lt0
 returns-then-constant-lt0 c =
-    let back : to_z w64 (of_z w64 c.args.constant) ≡ c.args.constant = to_z-of_z w64 c.args.constant c.ranges.constant in
-    let a = c.args in
-    start_below 64 [] a.w a.constant (rw (back) at c.if-constant-lt0.true)
+    let z = c.args.constant in
+    let back : to_z w64 (of_z w64 z) ≡ z = to_z-of_z w64 z c.ranges.constant in
+    start_below 64 [] c.args.w z (rw back at c.if-constant-lt0.true)
 
 pub overflow_cast-c : goal.overflow_cast-c
 overflow_cast-c c =
-    let back : to_z w64 (of_z w64 c.args.constant) ≡ c.args.constant = to_z-of_z w64 c.args.constant c.ranges.constant in
-    let not-below : lt_z c.args.constant (pos 0) ≡ false = rw (back) at c.if-constant-lt0.false in
-    let s = c in
-    let fits = whole s.args.constant (2 ^ 63) (not-below) s.ranges.constant.sfits in
-    rw (back) (fits.0, omega (arith, fits.1))
+    let z = c.args.constant in
+    let back : to_z w64 (of_z w64 z) ≡ z = to_z-of_z w64 z c.ranges.constant in
+    let not-below : lt_z z (pos 0) ≡ false = rw back at c.if-constant-lt0.false in
+    let fits = whole z (2 ^ 63) not-below c.ranges.constant.sfits in
+    rw back (fits.0, omega (arith, fits.1))
 
 pub returns-then-c-w-eq0 : goal.returns-then-c-w-eq0
 returns-then-c-w-eq0 c =
-    let back : to_z w64 (of_z w64 c.args.constant) ≡ c.args.constant = to_z-of_z w64 c.args.constant c.ranges.constant in
-    let not-below : lt_z c.args.constant (pos 0) ≡ false = rw (back) at c.if-constant-lt0.false in
-    let s = c in
-    rw (back)
-    (start_within 64 [] s.args.w s.args.constant (not-below)
-    (rw (back) at c.if-c-w-eq0.true))
+    let z = c.args.constant in
+    let back : to_z w64 (of_z w64 z) ≡ z = to_z-of_z w64 z c.ranges.constant in
+    let not-below : lt_z z (pos 0) ≡ false = rw back at c.if-constant-lt0.false in
+    rw back
+    (start_within 64 [] c.args.w z not-below
+    (rw back at c.if-c-w-eq0.true))
 
 pub returns : goal.returns
 returns c =
-    let back : to_z w64 (of_z w64 c.args.constant) ≡ c.args.constant = to_z-of_z w64 c.args.constant c.ranges.constant in
-    let not-below : lt_z c.args.constant (pos 0) ≡ false = rw (back) at c.if-constant-lt0.false in
-    let s = c in
-    rw (back)
-    (start_above 64 [] s.args.w s.args.constant (not-below) (rw (back) at c.if-c-w-eq0.false))
+    let z = c.args.constant in
+    let back : to_z w64 (of_z w64 z) ≡ z = to_z-of_z w64 z c.ranges.constant in
+    let not-below : lt_z z (pos 0) ≡ false = rw back at c.if-constant-lt0.false in
+    rw back
+    (start_above 64 [] c.args.w z not-below (rw back at c.if-c-w-eq0.false))

@@ -14,19 +14,21 @@ use Rattle.vertical_planes.proofs.ends.bits_of.Goals as goal
 
 pub returns-then-constant-lt0 : goal.returns-then-constant-lt0
 returns-then-constant-lt0 c =
-    let back : to_z w64 (of_z w64 c.args.constant) ≡ c.args.constant = to_z-of_z w64 c.args.constant c.ranges.constant in
-    bits_below c.args.constant (rw (back) at c.if-constant-lt0.true)
+    let z = c.args.constant in
+    let back : to_z w64 (of_z w64 z) ≡ z = to_z-of_z w64 z c.ranges.constant in
+    bits_below z (rw back at c.if-constant-lt0.true)
 
 pub overflow_cast-result : goal.overflow_cast-result
 overflow_cast-result c =
-    let back : to_z w64 (of_z w64 c.args.constant) ≡ c.args.constant = to_z-of_z w64 c.args.constant c.ranges.constant in
-    let not-below : lt_z c.args.constant (pos 0) ≡ false = rw (back) at c.if-constant-lt0.false in
-    let s = c in
-    let fits = whole s.args.constant (2 ^ 63) (not-below) s.ranges.constant.sfits in
-    rw (back) (fits.0, omega (arith, fits.1))
+    let z = c.args.constant in
+    let back : to_z w64 (of_z w64 z) ≡ z = to_z-of_z w64 z c.ranges.constant in
+    let not-below : lt_z z (pos 0) ≡ false = rw back at c.if-constant-lt0.false in
+    let fits = whole z (2 ^ 63) not-below c.ranges.constant.sfits in
+    rw back (fits.0, omega (arith, fits.1))
 
 pub returns : goal.returns
 returns c =
-    let back : to_z w64 (of_z w64 c.args.constant) ≡ c.args.constant = to_z-of_z w64 c.args.constant c.ranges.constant in
-    let not-below : lt_z c.args.constant (pos 0) ≡ false = rw (back) at c.if-constant-lt0.false in
-    rw (back) (bits-whole c.args.constant (not-below))
+    let z = c.args.constant in
+    let back : to_z w64 (of_z w64 z) ≡ z = to_z-of_z w64 z c.ranges.constant in
+    let not-below : lt_z z (pos 0) ≡ false = rw back at c.if-constant-lt0.false in
+    rw back (bits-whole z not-below)

@@ -1,5 +1,4 @@
 -- `vertical_planes::ends::lay` meets its contract: the test of the bit picks the definition's case.
-use borrow.Author.Rules.{rules}
 use borrow.Author.Tests.{eq-eqb, ne_eqb}
 use Rattle.rules.specs.Bits.{bit}
 use Rattle.vertical_planes.specs.Ends.{laid}

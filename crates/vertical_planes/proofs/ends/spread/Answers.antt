@@ -1,10 +1,6 @@
--- `vertical_planes::ends::spread` meets its contract. The loop's invariant: the bits passed are laid out.
-use mathlib.Core.Path.{◌≡◌}
-use Prim.Native.Nat.{◌-◌, ◌≤◌}
+-- `vertical_planes::ends::spread` meets its contract.
 use native.Mathlib.Omega.{arith}
-use lib.ListN.{length, length-set}
-use borrow.Author.Rules.{rules}
-use Rattle.vertical_planes.specs.Ends.{LaidOut}
+use lib.ListN.{length-set}
 use Rattle.vertical_planes.specs.Masks.{laid_next}
 use Rattle.vertical_planes.proofs.ends.spread.Goals as goal
 

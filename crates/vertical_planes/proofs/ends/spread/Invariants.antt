@@ -1,11 +1,8 @@
--- `vertical_planes::ends::spread` meets its contract. The loop's invariant: the bits passed are laid out.
+-- The loop's invariant: the bits passed are laid out.
 use mathlib.Core.Path.{◌≡◌}
 use Prim.Native.Nat.{◌-◌, ◌≤◌}
-use native.Mathlib.Omega.{arith}
-use lib.ListN.{length, length-set}
-use borrow.Author.Rules.{rules}
+use lib.ListN.{length}
 use Rattle.vertical_planes.specs.Ends.{LaidOut}
-use Rattle.vertical_planes.specs.Masks.{laid_next}
 use Rattle.vertical_planes.proofs.ends.spread.Given as goal
 
 abbrev pub invariant-loop-k : goal.invariant-loop-k

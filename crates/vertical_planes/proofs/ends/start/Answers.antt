@@ -15,31 +15,31 @@ use Rattle.vertical_planes.proofs.ends.start.Goals as goal
 
 pub returns-then-constant-lt0 : goal.returns-then-constant-lt0
 returns-then-constant-lt0 c =
-    let back : to_z w64 (of_z w64 c.args.constant) ≡ c.args.constant = to_z-of_z w64 c.args.constant c.ranges.constant in
-    let a = c.args in
-    start_below a.w a.constant (rw (back) at c.if-constant-lt0.true)
+    let z = c.args.constant in
+    let back : to_z w64 (of_z w64 z) ≡ z = to_z-of_z w64 z c.ranges.constant in
+    start_below c.args.w z (rw back at c.if-constant-lt0.true)
 
 pub overflow_cast-c : goal.overflow_cast-c
 overflow_cast-c c =
-    let back : to_z w64 (of_z w64 c.args.constant) ≡ c.args.constant = to_z-of_z w64 c.args.constant c.ranges.constant in
-    let not-below : lt_z c.args.constant (pos 0) ≡ false = rw (back) at c.if-constant-lt0.false in
-    let s = c in
-    let fits = whole s.args.constant (2 ^ 63) (not-below) s.ranges.constant.sfits in
-    rw (back) (fits.0, omega (arith, fits.1))
+    let z = c.args.constant in
+    let back : to_z w64 (of_z w64 z) ≡ z = to_z-of_z w64 z c.ranges.constant in
+    let not-below : lt_z z (pos 0) ≡ false = rw back at c.if-constant-lt0.false in
+    let fits = whole z (2 ^ 63) not-below c.ranges.constant.sfits in
+    rw back (fits.0, omega (arith, fits.1))
 
 pub overflow_shr-c : goal.overflow_shr-c
 overflow_shr-c c = search rules
 
 pub returns-then-c-w-eq0 : goal.returns-then-c-w-eq0
 returns-then-c-w-eq0 c =
-    let back : to_z w64 (of_z w64 c.args.constant) ≡ c.args.constant = to_z-of_z w64 c.args.constant c.ranges.constant in
-    let not-below : lt_z c.args.constant (pos 0) ≡ false = rw (back) at c.if-constant-lt0.false in
-    let s = c in
-    start_within s.args.w s.args.constant (not-below) (rw (back) at c.if-c-w-eq0.true)
+    let z = c.args.constant in
+    let back : to_z w64 (of_z w64 z) ≡ z = to_z-of_z w64 z c.ranges.constant in
+    let not-below : lt_z z (pos 0) ≡ false = rw back at c.if-constant-lt0.false in
+    start_within c.args.w z not-below (rw back at c.if-c-w-eq0.true)
 
 pub returns : goal.returns
 returns c =
-    let back : to_z w64 (of_z w64 c.args.constant) ≡ c.args.constant = to_z-of_z w64 c.args.constant c.ranges.constant in
-    let not-below : lt_z c.args.constant (pos 0) ≡ false = rw (back) at c.if-constant-lt0.false in
-    let s = c in
-    start_above s.args.w s.args.constant (not-below) (rw (back) at c.if-c-w-eq0.false)
+    let z = c.args.constant in
+    let back : to_z w64 (of_z w64 z) ≡ z = to_z-of_z w64 z c.ranges.constant in
+    let not-below : lt_z z (pos 0) ≡ false = rw back at c.if-constant-lt0.false in
+    start_above c.args.w z not-below (rw back at c.if-c-w-eq0.false)

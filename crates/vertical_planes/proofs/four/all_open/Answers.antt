@@ -8,28 +8,22 @@ returns-then-four-eq0 c = rw c.if-four-eq0.true
 
 pub returns-then-four-eq0-2 : goal.returns-then-four-eq0-2
 returns-then-four-eq0-2 c =
-    let e = c in
-    rw (lt-ltb 0 e.args.four.first.undecided (omega (arith, e.if-four-eq0.false)), c.if-four-eq0-2.true)
+    rw (lt-ltb 0 c.args.four.first.undecided (omega (arith, c.if-four-eq0.false)), c.if-four-eq0-2.true)
 
 pub returns-then-four-eq0-3 : goal.returns-then-four-eq0-3
 returns-then-four-eq0-3 c =
-    let f = c in
-    let e = f in
-    let a = e.args in
+    let a = c.args in
     rw (
-      lt-ltb 0 a.four.first.undecided (omega (arith, e.if-four-eq0.false)),
-      lt-ltb 0 a.four.second.undecided (omega (arith, f.if-four-eq0-2.false)),
+      lt-ltb 0 a.four.first.undecided (omega (arith, c.if-four-eq0.false)),
+      lt-ltb 0 a.four.second.undecided (omega (arith, c.if-four-eq0-2.false)),
       c.if-four-eq0-3.true,
     )
 
 pub returns : goal.returns
 returns c =
-    let g = c in
-    let f = g in
-    let e = f in
-    let a = e.args in
+    let a = c.args in
     rw (
-      lt-ltb 0 a.four.first.undecided (omega (arith, e.if-four-eq0.false)),
-      lt-ltb 0 a.four.second.undecided (omega (arith, f.if-four-eq0-2.false)),
-      lt-ltb 0 a.four.third.undecided (omega (arith, g.if-four-eq0-3.false)),
+      lt-ltb 0 a.four.first.undecided (omega (arith, c.if-four-eq0.false)),
+      lt-ltb 0 a.four.second.undecided (omega (arith, c.if-four-eq0-2.false)),
+      lt-ltb 0 a.four.third.undecided (omega (arith, c.if-four-eq0-3.false)),
     )

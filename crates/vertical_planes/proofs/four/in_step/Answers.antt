@@ -9,19 +9,13 @@ returns-then-four c =
 
 pub returns-then-four-2 : goal.returns-then-four-2
 returns-then-four-2 c =
-    let e = c in
-    let a = e.args.four in
-    rw (
-      eq-eqb a.second.taken a.first.taken e.if-four.false,
-      ne_eqb a.third.taken a.first.taken c.if-four-2.true,
-    )
+    let a = c.args.four in
+    rw (eq-eqb a.second.taken a.first.taken c.if-four.false, ne_eqb a.third.taken a.first.taken c.if-four-2.true)
 
 pub returns : goal.returns
 returns c =
-    let f = c in
-    let e = f in
-    let a = e.args.four in
+    let a = c.args.four in
     rw (
-      eq-eqb a.second.taken a.first.taken e.if-four.false,
-      eq-eqb a.third.taken a.first.taken f.if-four-2.false,
+      eq-eqb a.second.taken a.first.taken c.if-four.false,
+      eq-eqb a.third.taken a.first.taken c.if-four-2.false,
     )

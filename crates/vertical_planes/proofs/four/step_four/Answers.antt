@@ -1,5 +1,4 @@
 -- `vertical_planes::four::step_four` meets its contract: each pair of bits that the ends can have in all lanes.
-use borrow.Author.Rules.{rules}
 use Rattle.vertical_planes.proofs.four.step_four.Goals as goal
 
 pub returns-then-apart-eq0 : goal.returns-then-apart-eq0
@@ -7,15 +6,12 @@ returns-then-apart-eq0 c = rw (c.if-low-eq0.true, c.if-apart-eq0.true) c.step_ea
 
 pub returns-then-low-eq0 : goal.returns-then-low-eq0
 returns-then-low-eq0 c =
-    let s = c in
-    rw (c.if-low-eq0.true, s.requires.1.1 c.if-apart-eq0.false) c.step_each-then-low-eq0.ensures
+    rw (c.if-low-eq0.true, c.requires.laid.1 c.if-apart-eq0.false) c.step_each-then-low-eq0.ensures
 
 pub returns-then-apart-eq0-2 : goal.returns-then-apart-eq0-2
 returns-then-apart-eq0-2 c =
-    let s = c in
-    rw (s.requires.1.0 c.if-low-eq0.false, c.if-apart-eq0-2.true) c.step_each-then-apart-eq0-2.ensures
+    rw (c.requires.laid.0 c.if-low-eq0.false, c.if-apart-eq0-2.true) c.step_each-then-apart-eq0-2.ensures
 
 pub returns : goal.returns
 returns c =
-    let s = c in
-    rw (s.requires.1.0 c.if-low-eq0.false, s.requires.1.1 c.if-apart-eq0-2.false) c.step_each-2.ensures
+    rw (c.requires.laid.0 c.if-low-eq0.false, c.requires.laid.1 c.if-apart-eq0-2.false) c.step_each-2.ensures

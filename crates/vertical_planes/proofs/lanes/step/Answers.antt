@@ -1,6 +1,5 @@
 -- `vertical_planes::lanes::step` meets its contract, which is what it computes.
 use mathlib.Core.Path.{refl}
-use borrow.Author.Rules.{rules}
 use Rattle.vertical_planes.specs.Standing.{stepped}
 use Rattle.vertical_planes.proofs.lanes.step.Goals as goal
 

@@ -1,11 +1,7 @@
--- `vertical_planes::lanes::together` meets its contract. The loop's invariant: both ends have had the same
-use mathlib.Core.Path.{refl}
-use Prim.Native.Nat.{◌+◌, ◌-◌, ◌^◌, ◌<◌}
-use native.Mathlib.Omega.{arith}
-use lib.Bits.{bit_and, bit_xor}
-use lib.ListN.{length, get_or}
-use borrow.Author.Rules.{rules}
-use Rattle.vertical_planes.specs.Together.{Turned, together_none, together_next, together_told, parted}
+-- The loop's invariant: both ends have had the same bits, and some lane is undecided.
+use Prim.Native.Nat.{◌-◌, ◌<◌}
+use lib.ListN.{length}
+use Rattle.vertical_planes.specs.Together.{Turned}
 use Rattle.vertical_planes.proofs.lanes.together.Given as goal
 
 abbrev pub invariant-loop-i : goal.invariant-loop-i

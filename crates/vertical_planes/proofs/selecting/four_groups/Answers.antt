@@ -2,25 +2,21 @@
 use mathlib.Core.Path.{ap, ◌∙◌}
 use Prim.Native.Nat.{◌+◌, ◌*◌}
 use native.Mathlib.Omega.{arith}
-use borrow.Author.Rules.{rules}
 use Rattle.vertical_planes.specs.declared.four.FourCompared.{FourCompared}
 use Rattle.vertical_planes.specs.Chosen.{part_length, part_bits}
 use Rattle.vertical_planes.proofs.selecting.four_groups.Goals as goal
 
 pub compare_four-requires : goal.compare_four-requires
 compare_four-requires c =
-    let s = c in
-    let a = s.args in
-    let w = a.w in
-    let at = a.g * w in
-    let words = a.words.now in
+    let w = c.args.w in
+    let at = c.args.g * w in
+    let words = c.args.words.now in
     rw (
       part_length words at (at + w) w (omega arith) (omega arith),
       part_length words (at + w) (at + w + w) w (omega arith) (omega arith),
       part_length words (at + w + w) (at + w + w + w) w (omega arith) (omega arith),
       part_length words (at + w + w + w) (at + w + w + w + w) w (omega arith) (omega arith),
-    )
-    (omega arith, s.requires.1)
+    ) (record { few = omega arith; masked = c.requires.masked })
 
 pub returns : goal.returns
 returns c =

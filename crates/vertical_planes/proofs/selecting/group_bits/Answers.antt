@@ -1,18 +1,17 @@
 -- `vertical_planes::selecting::group_bits` meets its contract: the group's planes are lent on.
 use mathlib.Core.Path.{ap, ◌∙◌}
-use Prim.Native.Nat.{◌+◌, ◌-◌, ◌*◌}
+use Prim.Native.Nat.{◌+◌, ◌*◌}
 use native.Mathlib.Omega.{arith}
-use borrow.Author.Rules.{rules}
 use Rattle.rules.specs.declared.Compared.{Compared}
 use Rattle.vertical_planes.specs.Chosen.{part_length, part_bits}
 use Rattle.vertical_planes.proofs.selecting.group_bits.Goals as goal
 
 pub compare-requires : goal.compare-requires
 compare-requires c =
-    let s = c in
-    let a = s.args in
+    let a = c.args in
     let at = a.g * a.w in
-    rw (part_length a.words.now at (at + a.w) a.w (omega arith) (omega arith)) (omega arith, s.requires.1)
+    rw (part_length a.words.now at (at + a.w) a.w (omega arith) (omega arith))
+    (record { few = omega arith; masked = c.requires.masked })
 
 pub returns : goal.returns
 returns c =

@@ -6,7 +6,6 @@ use Prim.Native.Nat.{ℕ, ◌+◌, ◌*◌, ◌/◌, ◌%◌, ◌^◌}
 use native.Mathlib.Nat.{mul-le-mul_right}
 use native.Mathlib.Omega.{arith}
 use lib.Pow.{pow_pos}
-use borrow.Author.Rules.{rules}
 use Rattle.rules.specs.Bits.{ceil, put, bytes}
 use Rattle.words.specs.Bits.{one_shl}
 use Rattle.words.specs.Entries.{place-within}
@@ -15,22 +14,25 @@ use Rattle.vertical_planes.proofs.selecting.select_by.Goals as goal
 
 pub select_full-requires : goal.select_full-requires
 select_full-requires c =
-    let s = c in
-    let a = s.args in
-    (omega (arith, mul-le-mul_right {m = a.n / 64} {n = ceil a.n 64} a.w (omega arith)), s.requires.1)
+    let a = c.args in
+    record {
+      few = omega (arith, mul-le-mul_right {m = a.n / 64} {n = ceil a.n 64} a.w (omega arith));
+      masked = c.requires.masked;
+    }
 
 pub returns-then-rest-eq0 : goal.returns-then-rest-eq0
 returns-then-rest-eq0 c =
-    let s = c in
-    let a = s.args in
+    let a = c.args in
     let all : 64 * (a.n / 64) ≡ a.n = omega arith in
-    s.select_full.ensures ∙ ap (λ (k : ℕ). put a.bitmap.now 0 (chosen a.words.now k a.w a.band)) all
+    c.select_full.ensures ∙ ap (λ (k : ℕ). put a.bitmap.now 0 (chosen a.words.now k a.w a.band)) all
 
 pub group_bits-requires : goal.group_bits-requires
 group_bits-requires c =
-    let s = c in
-    let a = s.args in
-    (omega (arith, place-within a.w (a.n / 64) (ceil a.n 64) (omega arith)), s.requires.1)
+    let a = c.args in
+    record {
+      few = omega (arith, place-within a.w (a.n / 64) (ceil a.n 64) (omega arith));
+      masked = c.requires.masked;
+    }
 
 pub nonzero_rem-bits : goal.nonzero_rem-bits
 nonzero_rem-bits c =
@@ -39,19 +41,14 @@ nonzero_rem-bits c =
 
 pub returns : goal.returns
 returns c =
-    let s = c in
-    let f = s in
-    let a = f.args in
+    let a = c.args in
     let q = a.n / 64 in
     let r = a.n % 64 in
-    let bits : s.group_bits.result % ((1 * 2 ^ r) % 2 ^ 64)
-    ≡ lanes64 a.words.now (q * a.w) a.w a.band % 2 ^ r =
-    rw (one_shl 64 r (omega arith), s.group_bits.ensures) in
+    let bits : c.group_bits.result % ((1 * 2 ^ r) % 2 ^ 64) ≡ lanes64 a.words.now (q * a.w) a.w a.band % 2 ^ r =
+    rw (one_shl 64 r (omega arith), c.group_bits.ensures) in
     let all : 64 * q + r ≡ a.n = omega arith in
-    s.store_low.ensures
-    ∙ ap
-    (λ (l : List ℕ). put l (8 * q)
-    (bytes (ceil r 8) (s.group_bits.result % ((1 * 2 ^ r) % 2 ^ 64))))
-    f.select_full.ensures
+    c.store_low.ensures
+    ∙ ap (λ (l : List ℕ). put l (8 * q) (bytes (ceil r 8) (c.group_bits.result % ((1 * 2 ^ r) % 2 ^ 64))))
+    c.select_full.ensures
     ∙ next-chosen a.bitmap.now a.words.now a.w a.band q r _ (omega arith) (omega arith) bits
     ∙ ap (λ (k : ℕ). put a.bitmap.now 0 (chosen a.words.now k a.w a.band)) all

@@ -1,57 +1,48 @@
--- `vertical_planes::selecting::select_full` meets its contract. The loop's invariant: the words of the groups passed
--- are in place.
+-- `vertical_planes::selecting::select_full` meets its contract.
 use mathlib.Core.Path.{◌≡◌, refl, ap, ◌∙◌}
-use mathlib.Core.List.{List}
-use Prim.Native.Nat.{ℕ, ◌+◌, ◌-◌, ◌*◌, ◌/◌, ◌≤◌}
+use Prim.Native.Nat.{◌+◌, ◌*◌, ◌/◌}
 use native.Mathlib.Nat.{mul-le-mul_right}
 use native.Mathlib.Omega.{arith}
 use lib.ListN.{length}
 use Rattle.rules.specs.Bits.{put, bytes}
 use Rattle.words.specs.Entries.{place-within}
-use Rattle.vertical_planes.specs.Chosen.{chosen, next_group}
+use Rattle.vertical_planes.specs.Chosen.{next_group}
 use Rattle.vertical_planes.proofs.selecting.select_full.Goals as goal
 
 pub select_fours-requires : goal.select_fours-requires
 select_fours-requires c =
-    let s = c in
-    let a = s.args in
-    (omega (arith, mul-le-mul_right {m = 4 * (a.q / 4)} {n = a.q} a.w (omega arith)), s.requires.1)
+    let a = c.args in
+    record {
+      few = omega (arith, mul-le-mul_right {m = 4 * (a.q / 4)} {n = a.q} a.w (omega arith));
+      masked = c.requires.masked;
+    }
 
 pub loop-g-init : goal.loop-g-init
-loop-g-init c = (omega arith, refl, λ l size e. e)
+loop-g-init c = (omega arith, c.select_fours.auto.bitmap, c.select_fours.ensures)
 
 pub group_bits-requires : goal.group_bits-requires
 group_bits-requires c =
-    let l = c in
-    let s = l in
-    let a = s.args in
-    (omega (arith, place-within a.w l.loop-g.g a.q (omega arith)), s.requires.1)
+    let a = c.args in
+    record {
+      few = omega (arith, place-within a.w c.loop-g.g a.q (omega arith));
+      masked = c.requires.masked;
+    }
 
 pub loop-g-preserved : goal.loop-g-preserved
 loop-g-preserved c =
-    let t = c in
-    let b = t in
-    let l = b in
-    let s = l in
-    let a = s.args in
-    let g = l.loop-g.g in
-    let more = b.loop-g-test.true in
-    let f = l in
-    let kept : length t.store8.new.s ≡ length l.loop-g.bitmap = t.store8.auto.0 in
-    let kept-too = f.select_fours.auto.1.1.1.1.1.1.0 in (
+    let a = c.args in
+    let l = c.loop-g in
+    let g = l.g in
+    let kept : length c.store8.new.s ≡ length l.bitmap = c.store8.auto.s in (
       omega arith,
-      kept ∙ l.loop-g.invariant.1,
-      λ x size e. t.store8.ensures
-          ∙ ap (λ y. put y (8 * g) (bytes 8 b.group_bits.result)) (l.loop-g.invariant.2 x size e)
-          ∙ next_group x a.words.now a.w a.band g (g + 1) (g * a.w) _ refl refl
-          (omega (arith, s.requires.0, more, kept-too, size)) b.group_bits.ensures,
+      kept ∙ l.invariant.1,
+      c.store8.ensures
+          ∙ ap (λ y. put y (8 * g) (bytes 8 c.group_bits.result)) l.invariant.2
+          ∙ next_group a.bitmap.now a.words.now a.w a.band g (g + 1) (g * a.w) _ refl refl (omega arith)
+          c.group_bits.ensures,
     )
 
 pub returns : goal.returns
 returns c =
-    let l = c in
-    let f = l in
-    let s = f in
-    let all : l.loop-g.g ≡ s.args.q = omega arith in
-    rw (← all)
-    (l.loop-g.invariant.2 s.args.bitmap.now f.select_fours.auto.1.1.1.1.1.1.0 f.select_fours.ensures)
+    let all : c.loop-g.g ≡ c.args.q = omega arith in
+    rw (← all) c.loop-g.invariant.2

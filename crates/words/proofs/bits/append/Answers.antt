@@ -4,7 +4,6 @@ use Prim.Native.Nat.{ℕ, ◌+◌, ◌*◌, ◌%◌, ◌^◌, ◌≤◌, ◌<◌
 use native.Mathlib.Nat.{mod-lt}
 use native.Mathlib.Omega.{arith}
 use lib.Pow.{pow_pos, pow_mono, shl_lt, shl_exact}
-use borrow.Author.Rules.{rules}
 use Rattle.words.proofs.bits.append.Goals as goal
 
 -- nothing is shifted out
@@ -25,10 +24,9 @@ overflow_add-x c =
 
 pub returns : goal.returns
 returns c =
-    let s = c in
-    let a = s.args in
+    let a = c.args in
     c.store_low.ensures
     ∙ rw (
-      shifted a.x a.r a.m (omega arith) (omega arith) s.requires.2,
+      shifted a.x a.r a.m (omega arith) (omega arith) c.requires.2,
       c.head-low.ensures,
     )

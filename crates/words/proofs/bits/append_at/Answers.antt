@@ -4,7 +4,6 @@ use mathlib.Core.Path.{ap, ◌∙◌}
 use mathlib.Core.List.{List, ◌++◌}
 use Prim.Native.Nat.{ℕ, ◌/◌}
 use lib.ListN.{take}
-use borrow.Author.Rules.{rules}
 use Rattle.words.specs.Appended.{appended}
 use Rattle.words.specs.Puts.{part_rest, back-rest}
 use Rattle.words.proofs.bits.append_at.Goals as goal

@@ -1,12 +1,11 @@
 -- `words::bits::head` meets its contract: `1 << r` is 2 ^ r.
 use native.Mathlib.Omega.{arith}
 use lib.Pow.{pow_pos}
-use borrow.Author.Rules.{rules}
 use Rattle.words.specs.Bits.{one_shl}
 use Rattle.words.proofs.bits.head.Goals as goal
 
 pub overflow_cast-result : goal.overflow_cast-result
-overflow_cast-result c = omega (arith, c.shared_slice_known-1.given 0)
+overflow_cast-result c = omega (arith, c.type_inv.part 0)
 
 pub nonzero_rem-result : goal.nonzero_rem-result
 nonzero_rem-result c = rw (one_shl 64 c.args.r (omega arith)) (pow_pos c.args.r)

@@ -10,7 +10,6 @@ use Rattle.words.specs.Entries.{window}
 use Rattle.words.specs.Joined.{piece_lt}
 use Rattle.rules.specs.Bits.Order.{low_first}
 use native.Mathlib.Omega.{arith}
-use borrow.Author.Rules.{rules}
 use Rattle.words.proofs.entries.entry_any.Goals as goal
 use Rattle.words.proofs.entries.entry_any.Goals.{After-load_any}
 
@@ -21,7 +20,7 @@ value c =
     let a = c.args in
     let l = a.page.now in
     rw (one_shl 64 a.w (omega arith), c.load_any.ensures)
-    (window l (a.k / 8) 8 (a.k % 8) a.w (λ k. (c.shared_slice_known-1.given k).fits) (omega arith)
+    (window l (a.k / 8) 8 (a.k % 8) a.w (λ k. (c.type_inv.page k).fits) (omega arith)
     ∙ ap (λ (k : ℕ). field low_first l k a.w) (omega arith))
 
 pub nonzero_rem-result-2 : goal.nonzero_rem-result-2

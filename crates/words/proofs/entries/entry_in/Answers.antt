@@ -5,7 +5,6 @@ use native.Mathlib.Nat.{mod-lt, lt_of_lt_of_le}
 use native.Mathlib.Omega.{arith}
 use Rattle.rules.specs.Bits.Order.{low_first}
 use lib.Pow.{pow_pos, pow_mono}
-use borrow.Author.Rules.{rules}
 use Rattle.rules.specs.Bits.{field}
 use Rattle.words.specs.Bits.{one_shl}
 use Rattle.words.specs.Entries.{window}
@@ -28,5 +27,5 @@ returns c =
     let a = c.args in
     let l = a.page.now in
     rw (one_shl 64 a.w (omega arith), c.load8.ensures)
-    (window l (a.at + a.b / 8) 8 (a.b % 8) a.w (λ k. (c.shared_slice_known-1.given k).fits) (omega arith)
+    (window l (a.at + a.b / 8) 8 (a.b % 8) a.w (λ k. (c.type_inv.page k).fits) (omega arith)
     ∙ ap (λ (k : ℕ). field low_first l k a.w) (omega arith))

@@ -1,6 +1,5 @@
 -- `words::loads::load4` meets its contract: 4 bytes are 2 and 2.
 use native.Mathlib.Omega.{arith}
-use borrow.Author.Rules.{rules}
 use Rattle.words.specs.Bytes.{number_add}
 use Rattle.words.proofs.loads.load4.Goals as goal
 

@@ -1,6 +1,5 @@
 -- `words::loads::load8` meets its contract: 8 bytes are 4 and 4.
 use native.Mathlib.Omega.{arith}
-use borrow.Author.Rules.{rules}
 use Rattle.words.specs.Bytes.{number_add}
 use Rattle.words.proofs.loads.load8.Goals as goal
 

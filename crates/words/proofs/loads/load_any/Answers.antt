@@ -1,12 +1,10 @@
 -- `words::loads::load_any` meets its contract: nothing past the end, a shorter tail, or eight bytes.
-use Prim.Native.Nat.{◌-◌}
 use mathlib.Core.Path.{sym, ap, ◌∙◌}
 use lib.ListN.{drop, length-drop}
 use lib.Seq.{take_all}
 use Rattle.rules.specs.Bits.{number}
 use Rattle.words.specs.Bytes.{number-end}
 use native.Mathlib.Omega.{arith}
-use borrow.Author.Rules.{rules}
 use Rattle.words.proofs.loads.load_any.Goals as goal
 
 pub returns-then-s-at : goal.returns-then-s-at

@@ -1,12 +1,11 @@
 -- `words::loads::load_tail` meets its contract: from the last byte down, each turn puts one byte below those read.
-use Prim.Native.Nat.{ℕ, ◌+◌, ◌-◌, ◌*◌, ◌^◌, ◌≤◌, ◌<◌}
+use Prim.Native.Nat.{ℕ, ◌+◌, ◌-◌, ◌*◌, ◌^◌, ◌<◌}
 use mathlib.Core.Path.{◌≡◌, sym, ap, ◌∙◌}
 use lib.ListN.{length, drop, get_or}
 use Rattle.rules.specs.Bits.{number}
 use Rattle.words.specs.Bytes.{number_step, number-end}
 use Rattle.words.specs.Entries.{number_short}
 use native.Mathlib.Omega.{arith}
-use borrow.Author.Rules.{rules}
 use Rattle.words.proofs.loads.load_tail.Goals as goal
 use Rattle.words.proofs.loads.load_tail.Goals.{After-shared_slice_known-1}
 

@@ -1,12 +1,8 @@
 -- `words::loads::load_tail` meets its contract: from the last byte down, each turn puts one byte below those read.
-use Prim.Native.Nat.{ℕ, ◌+◌, ◌-◌, ◌*◌, ◌^◌, ◌≤◌, ◌<◌}
-use mathlib.Core.Path.{◌≡◌, sym, ap, ◌∙◌}
-use lib.ListN.{length, drop, get_or}
+use Prim.Native.Nat.{◌≤◌}
+use mathlib.Core.Path.{◌≡◌}
+use lib.ListN.{length, drop}
 use Rattle.rules.specs.Bits.{number}
-use Rattle.words.specs.Bytes.{number_step, number-end}
-use Rattle.words.specs.Entries.{number_short}
-use native.Mathlib.Omega.{arith}
-use borrow.Author.Rules.{rules}
 use Rattle.words.proofs.loads.load_tail.Given as goal
 
 abbrev pub invariant-loop-k : goal.invariant-loop-k

@@ -1,6 +1,5 @@
 -- `words::stores::store4` meets its contract: four bytes are two and two.
 use native.Mathlib.Omega.{arith}
-use borrow.Author.Rules.{rules}
 use Rattle.words.specs.Bytes.{put-bytes}
 use Rattle.words.proofs.stores.store4.Goals as goal
 

@@ -1,6 +1,5 @@
 -- `words::stores::store8` meets its contract: eight bytes are four and four.
 use native.Mathlib.Omega.{arith}
-use borrow.Author.Rules.{rules}
 use Rattle.words.specs.Bytes.{put-bytes}
 use Rattle.words.proofs.stores.store8.Goals as goal
 

@@ -1,11 +1,11 @@
 -- `words::stores::store_each` meets its contract: each turn stores one byte more.
 use mathlib.Core.Path.{◌≡◌, sym}
-use Prim.Native.Nat.{◌-◌, ◌/◌, ◌^◌, ◌≤◌}
+use Prim.Native.Nat.{◌^◌}
 use native.Mathlib.Nat.{div-one, div-div-eq-div-mul, pow-suc}
 use native.Mathlib.Numerals.{add-one}
 use native.Mathlib.Omega.{arith}
-use lib.ListN.{length, length-set}
-use Rattle.rules.specs.Bits.{bytes, put}
+use lib.ListN.{length-set}
+use Rattle.rules.specs.Bits.{bytes}
 use Rattle.words.specs.Bytes.{put_next}
 use Rattle.words.specs.Puts.{put-none}
 use Rattle.words.proofs.stores.store_each.Goals as goal

@@ -1,13 +1,8 @@
 -- `words::stores::store_each` meets its contract: each turn stores one byte more.
-use mathlib.Core.Path.{◌≡◌, sym}
+use mathlib.Core.Path.{◌≡◌}
 use Prim.Native.Nat.{◌-◌, ◌/◌, ◌^◌, ◌≤◌}
-use native.Mathlib.Nat.{div-one, div-div-eq-div-mul, pow-suc}
-use native.Mathlib.Numerals.{add-one}
-use native.Mathlib.Omega.{arith}
-use lib.ListN.{length, length-set}
+use lib.ListN.{length}
 use Rattle.rules.specs.Bits.{bytes, put}
-use Rattle.words.specs.Bytes.{put_next}
-use Rattle.words.specs.Puts.{put-none}
 use Rattle.words.proofs.stores.store_each.Given as goal
 
 abbrev pub invariant-loop-k : goal.invariant-loop-k

@@ -1,7 +1,6 @@
 -- `words::stores::store_fours` meets its contract: the last four bytes are stored over what they share with the
 -- first.
 use native.Mathlib.Omega.{arith}
-use borrow.Author.Rules.{rules}
 use Rattle.words.specs.Bytes.{put-ends}
 use Rattle.words.proofs.stores.store_fours.Goals as goal
 

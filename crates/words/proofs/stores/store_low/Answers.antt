@@ -1,7 +1,6 @@
 -- `words::stores::store_low` meets its contract: bytes one by one, by fours or by twos, or one, or none.
 use mathlib.Core.Path.{◌≡◌}
 use native.Mathlib.Omega.{arith}
-use borrow.Author.Rules.{rules}
 use Rattle.rules.specs.Bits.{bytes}
 use Rattle.words.specs.Puts.{put-none, set-put}
 use Rattle.words.proofs.stores.store_low.Goals as goal

@@ -1,6 +1,5 @@
 -- `words::stores::store_twos` meets its contract: the last two bytes are stored over what they share with the first.
 use native.Mathlib.Omega.{arith}
-use borrow.Author.Rules.{rules}
 use Rattle.words.specs.Bytes.{put-ends}
 use Rattle.words.proofs.stores.store_twos.Goals as goal
 

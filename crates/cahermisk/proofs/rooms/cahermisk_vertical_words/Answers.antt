@@ -1,0 +1,36 @@
+-- `cahermisk::rooms::cahermisk_vertical_words` meets its contract.
+use mathlib.Core.Path.{◌≡◌, sym, ◌∙◌}
+use Prim.Native.Nat.{ℕ, ◌*◌, ◌≤◌}
+use native.Mathlib.Nat.{mul-le-mul}
+use native.Mathlib.Omega.{arith}
+use Rattle.rules.specs.Answer.{limit_fault}
+use Rattle.answers.specs.Laws.{within-limits}
+use Rattle.cahermisk.specs.Rooms.{within, beyond}
+use Rattle.cahermisk.proofs.rooms.cahermisk_vertical_words.Goals as goal
+
+-- of at most 256 groups
+words-few : (groups w : ℕ) → groups ≤ 256 → w ≤ 32 → groups * w ≤ 8192
+words-few groups w few narrow = mul-le-mul few narrow
+
+pub returns-then-unsigned_fault-ne0 : goal.returns-then-unsigned_fault-ne0
+returns-then-unsigned_fault-ne0 c =
+    sym (beyond _ _ (λ none. c.if-unsigned_fault-ne0.true (c.unsigned_fault.ensures ∙ none)))
+
+pub overflow_add-result : goal.overflow_add-result
+overflow_add-result c =
+    let none : limit_fault c.args.width c.args.n ≡ 0 =
+    sym c.unsigned_fault.ensures ∙ c.if-unsigned_fault-ne0.false in
+    let k = within-limits _ _ none in omega arith
+
+pub overflow_mul-result : goal.overflow_mul-result
+overflow_mul-result c =
+    let none : limit_fault c.args.width c.args.n ≡ 0 =
+    sym c.unsigned_fault.ensures ∙ c.if-unsigned_fault-ne0.false in
+    let k = within-limits _ _ none in
+    omega (arith, words-few)
+
+pub returns : goal.returns
+returns c =
+    let none : limit_fault c.args.width c.args.n ≡ 0 =
+    sym c.unsigned_fault.ensures ∙ c.if-unsigned_fault-ne0.false in
+    sym (within _ _ none)
