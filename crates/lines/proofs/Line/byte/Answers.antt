@@ -7,5 +7,4 @@ use Rattle.lines.proofs.Line.byte.Goals as goal
 pub returns : goal.returns
 unfolding hexadecimal
 returns c =
-    let s = c in
-    cc (three (held s.args.self) 32 (hex_digit (s.args.b / 16)) (hex_digit (s.args.b % 16)))
+    cc (three (held c.args.self) 32 (hex_digit (c.args.b / 16)) (hex_digit (c.args.b % 16)))

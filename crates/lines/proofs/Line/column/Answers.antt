@@ -10,9 +10,7 @@ use Rattle.lines.proofs.Line.column.Goals as goal
 pub returns : goal.returns
 unfolding held
 returns c =
-    let g = c in
-    let s = g in
-    let line = s.args.self in
+    let line = c.args.self in
     c.words.ensures
-    ∙ padded line.text line.used (search rules) s.args.at
-    (g.gap-k.result - 0) (omega arith)
+    ∙ padded line.text line.used (search rules) c.args.at
+    (c.gap-k.result - 0) (omega arith)

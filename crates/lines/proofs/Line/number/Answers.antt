@@ -7,9 +7,7 @@ use Rattle.lines.proofs.Line.number.Goals as goal
 
 pub returns : goal.returns
 returns c =
-    let d = c in
-    let s = d in
-    let e = d.decimal-k.ensures in
+    let e = c.decimal-k.ensures in
     c.words.ensures
-    ∙ ap (λ t. laid (held s.args.self) t)
-    (e.digits ∙ decimal_is s.args.n d.decimal-k.result (omega (arith, s.ranges.n)) e.len)
+    ∙ ap (λ t. laid (held c.args.self) t)
+    (e.digits ∙ decimal_is c.args.n c.decimal-k.result (omega (arith, c.ranges.n)) e.len)

@@ -9,13 +9,11 @@ use Rattle.lines.proofs.Line.place.Goals as goal
 pub returns-then-at-ge120 : goal.returns-then-at-ge120
 unfolding held
 returns-then-at-ge120 c =
-    let s = c in
-    full s.args.self.text s.args.self.used (search rules)
-    (s.args.b ∷ []) (omega arith)
+    full c.args.self.text c.args.self.used (search rules)
+    (c.args.b ∷ []) (omega arith)
 
 pub returns : goal.returns
 unfolding held
 returns c =
-    let s = c in
-    one s.args.self.text s.args.self.used (search rules)
-    s.args.b (omega arith)
+    one c.args.self.text c.args.self.used (search rules)
+    c.args.b (omega arith)

@@ -11,23 +11,18 @@ pub loop-i-init : goal.loop-i-init
 unfolding held
 loop-i-init c = (
   search rules,
-  let s = c in
-      none s.args.self.text s.args.self.used (search rules),
+  none c.args.self.text c.args.self.used (search rules),
 )
 
 pub loop-i-preserved : goal.loop-i-preserved
-loop-i-preserved c =
-    let l = c in
-    let s = l in (
-      omega arith,
-      c.place-line.ensures
-          ∙ next (held s.args.self) (held l.loop-i.line) s.args.words.now l.loop-i.i (omega arith)
-          l.loop-i.invariant.1,
-    )
+loop-i-preserved c = (
+  omega arith,
+  c.place-line.ensures
+      ∙ next (held c.args.self) (held c.loop-i.line) c.args.words.now c.loop-i.i (omega arith)
+      c.loop-i.invariant.1,
+)
 
 pub returns : goal.returns
 returns c =
-    let l = c in
-    let s = l in
-    l.loop-i.invariant.1
-    ∙ ap (λ t. laid (held s.args.self) t) (take_all l.loop-i.i s.args.words.now (omega arith))
+    c.loop-i.invariant.1
+    ∙ ap (λ t. laid (held c.args.self) t) (take_all c.loop-i.i c.args.words.now (omega arith))

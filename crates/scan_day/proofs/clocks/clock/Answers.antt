@@ -8,8 +8,7 @@ use Rattle.scan_day.proofs.clocks.clock.Goals as goal
 pub returns : goal.returns
 unfolding clock_time
 returns c =
-    let s = c in
-    let n = s.args.second in
+    let n = c.args.second in
     cc
-    (laid_six (held s.args.line) (two_digits (n / 3600 % 24)) (58 ∷ []) (two_digits (n / 60 % 60)) (58 ∷ [])
-    (two_digits (n % 60)) (of_day (s.args.day + n / 86400)))
+    (laid_six (held c.args.line) (two_digits (n / 3600 % 24)) (58 ∷ []) (two_digits (n / 60 % 60)) (58 ∷ [])
+    (two_digits (n % 60)) (of_day (c.args.day + n / 86400)))

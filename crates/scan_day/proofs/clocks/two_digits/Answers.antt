@@ -10,8 +10,7 @@ use Rattle.scan_day.proofs.clocks.two_digits.Goals as goal
 pub returns-then-n-lt10 : goal.returns-then-n-lt10
 unfolding two_digits
 returns-then-n-lt10 c =
-    let s = c in
-    rw (lt-ltb s.args.n 10 (omega arith)) (cc (laid-laid (held s.args.line) (48 ∷ []) (decimal s.args.n)))
+    rw (lt-ltb c.args.n 10 (omega arith)) (cc (laid-laid (held c.args.line) (48 ∷ []) (decimal c.args.n)))
 
 pub returns : goal.returns
 unfolding two_digits

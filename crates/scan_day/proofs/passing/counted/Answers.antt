@@ -9,18 +9,16 @@ returns-then-c-ge-CELLS c = let a = c.args in rw (le-ltb (a.second / 1200) 14040
 
 pub returns-then-held : goal.returns-then-held
 returns-then-held c =
-    let e = c in
-    let a = e.args in
+    let a = c.args in
     rw (
-      lt-ltb (a.second / 1200) 14040 e.if-c-ge-CELLS.false,
+      lt-ltb (a.second / 1200) 14040 c.if-c-ge-CELLS.false,
       lt-ltb (get_or a.cells.now (a.second / 1200) 0) 1200 c.if-held.true,
     )
 
 pub returns-else-held : goal.returns-else-held
 returns-else-held c =
-    let e = c in
-    let a = e.args in
+    let a = c.args in
     rw (
-      lt-ltb (a.second / 1200) 14040 e.if-c-ge-CELLS.false,
+      lt-ltb (a.second / 1200) 14040 c.if-c-ge-CELLS.false,
       le-ltb (get_or a.cells.now (a.second / 1200) 0) 1200 c.if-held.false,
     )

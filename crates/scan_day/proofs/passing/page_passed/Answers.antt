@@ -23,20 +23,20 @@ loop-second-init c =
 
 pub loop-second-preserved : goal.loop-second-preserved
 loop-second-preserved c =
-    let i = c in
-    let l = i in
-    let a = l.args in
-    let s = l.loop-second.second in
+    let a = c.args in
+    let s = c.loop-second.second in
     let chosen = chosen_by a.bitmap.now a.start in
-    let told = flag_is i.is_set-is_selected.result (bit_at low_first 8 a.bitmap.now (s - a.start)) i.is_set-is_selected.ensures in
-    let from = l.loop-second.invariant.0 in (
+    let told =
+    flag_is c.is_set-is_selected.result (bit_at low_first 8 a.bitmap.now (s - a.start))
+    c.is_set-is_selected.ensures in
+    let from = c.loop-second.invariant.0 in (
       omega arith,
       omega arith,
-      stepped-next passing chosen a.start a.before s i.is_set-is_selected.result l.loop-second.passed
-          c.second_passed-passed.result from told l.loop-second.invariant.2 c.second_passed-passed.ensures.value,
-      stepped-next counting chosen a.start a.selected.now s i.is_set-is_selected.result _ _ from told
-          l.loop-second.invariant.3 c.second_passed-passed.ensures.selected_after,
-      stepped-next counting (λ _. true) a.start a.answered.now s true _ _ from refl l.loop-second.invariant.4
+      stepped-next passing chosen a.start a.before s c.is_set-is_selected.result c.loop-second.passed
+          c.second_passed-passed.result from told c.loop-second.invariant.2 c.second_passed-passed.ensures.value,
+      stepped-next counting chosen a.start a.selected.now s c.is_set-is_selected.result _ _ from told
+          c.loop-second.invariant.3 c.second_passed-passed.ensures.selected_after,
+      stepped-next counting (λ _. true) a.start a.answered.now s true _ _ from refl c.loop-second.invariant.4
           c.second_passed-passed.ensures.answered_after,
     )
 

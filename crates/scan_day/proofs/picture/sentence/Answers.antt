@@ -23,9 +23,8 @@ returns-then-passed-eq0-2 c =
 pub returns : goal.returns
 unfolding sentence_of ascii
 returns c =
-    let e = c in
-    let a = e.args in
-    rw (ne_eqb a.passed.read 0 e.if-passed-eq0.false, ne_eqb a.passed.count 0 e.if-passed-eq0-2.false)
+    let a = c.args in
+    rw (ne_eqb a.passed.read 0 c.if-passed-eq0.false, ne_eqb a.passed.count 0 c.if-passed-eq0-2.false)
     (seven_pieces (decimal a.passed.count) (ascii " of ") (decimal a.passed.read)
     (ascii " seconds selected, the first at ")
     (clock_time a.day a.passed.first) (ascii ", the last at ") (clock_time a.day a.passed.last)

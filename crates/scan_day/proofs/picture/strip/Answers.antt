@@ -15,14 +15,11 @@ loop-c-init c = (search rules, c.new-line.ensures)
 
 pub loop-c-preserved : goal.loop-c-preserved
 loop-c-preserved c =
-    let d = c in
-    let s = d in
-    let l = s in
-    let a = l.args in
+    let a = c.args in
     let f = cell_at a.day a.from a.end a.answered.now a.selected.now in
-    let cell : d.drawn_cell.result ≡ f l.loop-c.c = rw s.seconds_of-seconds.ensures at d.drawn_cell.ensures in (
+    let cell : c.drawn_cell.result ≡ f c.loop-c.c = rw c.seconds_of-seconds.ensures at c.drawn_cell.ensures in (
       search rules,
-      one-more_cell f l.loop-c.c (held l.loop-c.line) (held c.words-line.result) l.loop-c.invariant.1
+      one-more_cell f c.loop-c.c (held c.loop-c.line) (held c.words-line.result) c.loop-c.invariant.1
           (rw cell at c.words-line.ensures),
     )
 
@@ -32,9 +29,8 @@ loop-c-smaller c = omega (arith, c.loop-c-test.true)
 pub returns : goal.returns
 unfolding strip_of
 returns c =
-    let l = c in
-    let a = l.args in
+    let a = c.args in
     let f = cell_at a.day a.from a.end a.answered.now a.selected.now in
-    let all : l.loop-c.c ≡ 72 = omega arith in
-    l.loop-c.invariant.1
+    let all : c.loop-c.c ≡ 72 = omega arith in
+    c.loop-c.invariant.1
     ∙ ap (λ (n : ℕ). laid [] (tabulate n f)) all

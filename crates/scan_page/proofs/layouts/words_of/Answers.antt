@@ -11,35 +11,30 @@ use Rattle.scan_page.specs.Layouts.{word_at}
 use Rattle.scan_page.proofs.layouts.words_of.Goals as goal
 
 pub loop-k-init : goal.loop-k-init
-loop-k-init c =
-    let s = c in (
-      search rules,
-      search rules,
-      search rules,
-      search rules,
-      tabulate-none s.args.words.now 0 (word_at s.args.page.now),
-    )
+loop-k-init c = (
+  search rules,
+  search rules,
+  search rules,
+  search rules,
+  tabulate-none c.args.words.now 0 (word_at c.args.page.now),
+)
 
 pub loop-k-preserved : goal.loop-k-preserved
 loop-k-preserved c =
-    let l = c in
-    let s = l in
-    let page = s.args.page.now in
-    let k = l.loop-k.k in (
+    let page = c.args.page.now in
+    let k = c.loop-k.k in (
       search rules,
       search rules,
       search rules,
       search rules,
-      ap₂ (λ (words : List ℕ) (x : ℕ). set words k x) l.loop-k.invariant.4 c.load_any.ensures
-          ∙ put-tabulate s.args.words.now k (word_at page) (omega arith),
+      ap₂ (λ (words : List ℕ) (x : ℕ). set words k x) c.loop-k.invariant.4 c.load_any.ensures
+          ∙ put-tabulate c.args.words.now k (word_at page) (omega arith),
     )
 
 pub returns : goal.returns
 returns c =
-    let l = c in
-    let s = l in
-    let all : l.loop-k.k ≡ l.min-all.result = omega arith in record {
+    let all : c.loop-k.k ≡ c.min-all.result = omega arith in record {
       value = search rules;
-      words_after = l.loop-k.invariant.4
-          ∙ ap (λ (k : ℕ). put s.args.words.now 0 (tabulate k (word_at s.args.page.now))) all;
+      words_after = c.loop-k.invariant.4
+          ∙ ap (λ (k : ℕ). put c.args.words.now 0 (tabulate k (word_at c.args.page.now))) all;
     }

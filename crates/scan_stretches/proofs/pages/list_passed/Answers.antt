@@ -9,19 +9,17 @@ loop-k-init c = (search rules, search rules, search rules, refl)
 
 pub loop-k-preserved : goal.loop-k-preserved
 loop-k-preserved c =
-    let l = c in
-    let a = l.args in (
+    let a = c.args in (
       search rules,
       search rules,
       search rules,
-      stretched-next a.start l.loop-k.k a.list.now l.loop-k.listing.going c.pair_passed-listing.result.going
+      stretched-next a.start c.loop-k.k a.list.now c.loop-k.listing.going c.pair_passed-listing.result.going
           (stretched a.start a.list.now a.before.going) c.loop-k-test.true
-          c.pair_passed-listing.ensures l.loop-k.invariant.3,
+          c.pair_passed-listing.ensures c.loop-k.invariant.3,
     )
 
 pub returns : goal.returns
 returns c =
-    let l = c in
-    let a = l.args in
-    stretched-end a.start l.loop-k.k a.list.now l.loop-k.listing.going
-    (stretched a.start a.list.now a.before.going) c.loop-k-test.false l.loop-k.invariant.3
+    let a = c.args in
+    stretched-end a.start c.loop-k.k a.list.now c.loop-k.listing.going
+    (stretched a.start a.list.now a.before.going) c.loop-k-test.false c.loop-k.invariant.3

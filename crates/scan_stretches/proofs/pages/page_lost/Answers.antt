@@ -8,6 +8,5 @@ returns-then-end-start c = rw (le-ltb c.args.start c.args.end (omega arith))
 
 pub returns : goal.returns
 returns c =
-    let l = c in
-    let a = l.args in
-    rw (lt-ltb a.start a.end (omega arith)) l.loses-next.ensures
+    let a = c.args in
+    rw (lt-ltb a.start a.end (omega arith)) c.loses-next.ensures

@@ -8,10 +8,8 @@ use Rattle.scan_stretches.proofs.pages.page_passed.Goals as goal
 
 pub returns : goal.returns
 returns c =
-    let m = c in
-    let f = m in
-    let a = f.args in
+    let a = c.args in
     c.list_passed.ensures
     ∙ ap (λ (l : List ℕ). stretched a.start l a.before.going)
-    (page_part a.bitmap.now a.n _ _ f.from_bitmap-answer.result m.min-numbers.result (search rules)
-    f.from_bitmap-answer.ensures m.min-numbers.ensures)
+    (page_part a.bitmap.now a.n _ _ c.from_bitmap-answer.result c.min-numbers.result (search rules)
+    c.from_bitmap-answer.ensures c.min-numbers.ensures)

@@ -13,13 +13,11 @@ returns-then-not-has_days c =
 pub returns-then-day-eq1 : goal.returns-then-day-eq1
 unfolding first_day ascii
 returns-then-day-eq1 c =
-    let e = c in
-    let a = e.args in
-    rw (e.if-not-has_days.false, eq-eqb a.day 1 (omega arith)) c.words-then-day-eq1.ensures
+    let a = c.args in
+    rw (c.if-not-has_days.false, eq-eqb a.day 1 (omega arith)) c.words-then-day-eq1.ensures
 
 pub returns : goal.returns
 unfolding first_day
 returns c =
-    let e = c in
-    let a = e.args in
-    rw (e.if-not-has_days.false, ne_eqb a.day 1 (omega arith)) c.words-2.ensures
+    let a = c.args in
+    rw (c.if-not-has_days.false, ne_eqb a.day 1 (omega arith)) c.words-2.ensures

@@ -9,9 +9,7 @@ use Rattle.scan_stretches.proofs.told.stretch.Goals as goal
 pub returns : goal.returns
 unfolding stretch_of ascii
 returns c =
-    let m = c in
-    let s = m in
-    let a = s.args in
+    let a = c.args in
     cc
     (laid_six [] (time_of a.has_days a.day a.first) (behind_time a.may_begin_earlier)
     (time_of a.has_days a.day (a.behind - 1)) (behind_time a.may_end_later) (decimal (a.behind - a.first))

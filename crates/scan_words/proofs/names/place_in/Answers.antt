@@ -12,27 +12,19 @@ loop-at-init c = (search rules, search rules, zero-add _)
 
 pub returns-then-same : goal.returns-then-same
 returns-then-same c =
-    let f = c in
-    let l = f in
-    let s = l in
-    found_here s.args.word.now s.args.names.now l.loop-at.at l.loop-at.k f.find-end.result (omega arith)
-    f.find-end.ensures.value l.loop-at.invariant.2
+    found_here c.args.word.now c.args.names.now c.loop-at.at c.loop-at.k c.find-end.result (omega arith)
+    c.find-end.ensures.value c.loop-at.invariant.2
     (c.same.ensures.0 c.if-same.true)
 
 pub loop-at-preserved : goal.loop-at-preserved
-loop-at-preserved c =
-    let f = c in
-    let l = f in
-    let s = l in (
-      omega arith,
-      omega arith,
-      found-later s.args.word.now s.args.names.now l.loop-at.at l.loop-at.k f.find-end.result
-          (omega arith) f.find-end.ensures.value l.loop-at.invariant.2
-          (λ e. true≢false (sym (c.same.ensures.1 e) ∙ c.if-same.false)),
-    )
+loop-at-preserved c = (
+  omega arith,
+  omega arith,
+  found-later c.args.word.now c.args.names.now c.loop-at.at c.loop-at.k c.find-end.result
+      (omega arith) c.find-end.ensures.value c.loop-at.invariant.2
+      (λ e. true≢false (sym (c.same.ensures.1 e) ∙ c.if-same.false)),
+)
 
 pub returns : goal.returns
 returns c =
-    let l = c in
-    let s = l in
-    found_none s.args.word.now s.args.names.now l.loop-at.at l.loop-at.k (omega arith) l.loop-at.invariant.2
+    found_none c.args.word.now c.args.names.now c.loop-at.at c.loop-at.k (omega arith) c.loop-at.invariant.2

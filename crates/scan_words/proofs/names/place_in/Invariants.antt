@@ -7,7 +7,8 @@ use Rattle.scan_words.proofs.names.place_in.Given as goal
 
 abbrev pub invariant-loop-at : goal.invariant-loop-at
 invariant-loop-at l =
-    (l.k ≤ l.at) × (l.at ≤ length l.names + 1) × (l.k + place l.word (words (drop l.at l.names)) ≡ place l.word (words l.names))
+    (l.k ≤ l.at) × (l.at ≤ length l.names + 1)
+    × (l.k + place l.word (words (drop l.at l.names)) ≡ place l.word (words l.names))
 
 abbrev pub decreases-loop-at : goal.decreases-loop-at
 decreases-loop-at l = length l.names + 1 - l.at

@@ -11,25 +11,22 @@ returns-then-m-gt-ROOM c = rw (lt-ltb 922337203685477580 c.args.m (omega arith))
 pub returns-then-digit-lt48 : goal.returns-then-digit-lt48
 unfolding further
 returns-then-digit-lt48 c =
-    let s = c in
-    rw (le-ltb 922337203685477580 s.args.m (omega arith), lt-leb 48 s.args.digit (omega arith))
+    rw (le-ltb 922337203685477580 c.args.m (omega arith), lt-leb 48 c.args.digit (omega arith))
 
 pub returns-then-digit-gt57 : goal.returns-then-digit-gt57
 unfolding further
 returns-then-digit-gt57 c =
-    let s = c in
     rw (
-      le-ltb 922337203685477580 s.args.m (omega arith),
-      le-leb 48 s.args.digit (omega arith),
-      lt-leb s.args.digit 57 (omega arith),
+      le-ltb 922337203685477580 c.args.m (omega arith),
+      le-leb 48 c.args.digit (omega arith),
+      lt-leb c.args.digit 57 (omega arith),
     )
 
 pub returns : goal.returns
 unfolding further
 returns c =
-    let s = c in
     rw (
-      le-ltb 922337203685477580 s.args.m (omega arith),
-      le-leb 48 s.args.digit (omega arith),
-      le-leb s.args.digit 57 (omega arith),
+      le-ltb 922337203685477580 c.args.m (omega arith),
+      le-leb 48 c.args.digit (omega arith),
+      le-leb c.args.digit 57 (omega arith),
     )

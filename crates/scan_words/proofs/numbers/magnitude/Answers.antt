@@ -15,18 +15,14 @@ loop-i-init c =
 
 pub loop-i-preserved : goal.loop-i-preserved
 loop-i-preserved c =
-    let l = c in
-    let s = l in
-    let word = s.args.word.now in (
+    let word = c.args.word.now in (
       omega arith,
-      rw c.longer-m.ensures (kept l.loop-i.m (get_or word l.loop-i.i 0)),
-      next word (drop s.args.from word) l.loop-i.m l.loop-i.i c.longer-m.result (omega arith)
-          c.longer-m.ensures l.loop-i.invariant.2,
+      rw c.longer-m.ensures (kept c.loop-i.m (get_or word c.loop-i.i 0)),
+      next word (drop c.args.from word) c.loop-i.m c.loop-i.i c.longer-m.result (omega arith)
+          c.longer-m.ensures c.loop-i.invariant.2,
     )
 
 pub returns : goal.returns
 returns c =
-    let l = c in
-    let s = l in
-    let word = s.args.word.now in
-    ended word (drop s.args.from word) l.loop-i.m l.loop-i.i (omega arith) l.loop-i.invariant.1 l.loop-i.invariant.2
+    let word = c.args.word.now in
+    ended word (drop c.args.from word) c.loop-i.m c.loop-i.i (omega arith) c.loop-i.invariant.1 c.loop-i.invariant.2

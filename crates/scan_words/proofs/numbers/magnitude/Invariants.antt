@@ -8,7 +8,8 @@ use Rattle.scan_words.proofs.numbers.magnitude.Given as goal
 
 abbrev pub invariant-loop-i : goal.invariant-loop-i
 invariant-loop-i l =
-    (l.i ≤ length l.word) × (capped (some l.m) ≡ l.m) × (capped (onward l.m (drop l.i l.word)) ≡ capped (spelled (drop l.from l.word)))
+    (l.i ≤ length l.word) × (capped (some l.m) ≡ l.m)
+    × (capped (onward l.m (drop l.i l.word)) ≡ capped (spelled (drop l.from l.word)))
 
 abbrev pub decreases-loop-i : goal.decreases-loop-i
 decreases-loop-i l = length l.word - l.i

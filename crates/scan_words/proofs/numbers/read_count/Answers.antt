@@ -7,13 +7,11 @@ use Rattle.scan_words.proofs.numbers.read_count.Goals as goal
 pub returns-then-m-le4294967295 : goal.returns-then-m-le4294967295
 unfolding count_of
 returns-then-m-le4294967295 c =
-    let m = c in
-    count_is m.magnitude-m.result (spelled m.args.word.now) m.magnitude-m.ensures
+    count_is c.magnitude-m.result (spelled c.args.word.now) c.magnitude-m.ensures
     (omega arith)
 
 pub returns : goal.returns
 unfolding count_of
 returns c =
-    let m = c in
-    count_none m.magnitude-m.result (spelled m.args.word.now) m.magnitude-m.ensures
+    count_none c.magnitude-m.result (spelled c.args.word.now) c.magnitude-m.ensures
     (omega arith)

@@ -13,15 +13,13 @@ returns-then-word-ne8 c = rw (ne_eqb (length c.args.word.now) 8 c.if-word-ne8.tr
 pub returns-then-word-ne58 : goal.returns-then-word-ne58
 unfolding time_of
 returns-then-word-ne58 c =
-    let e = c in
-    let word = e.args.word.now in
+    let word = c.args.word.now in
     rw (eq-eqb (length word) 8 (omega arith), ne_eqb (get_or word 2 0) 58 c.if-word-ne58.true)
 
 pub returns-then-word-ne58-2 : goal.returns-then-word-ne58-2
 unfolding time_of
 returns-then-word-ne58-2 c =
-    let e = c in
-    let word = e.args.word.now in
+    let word = c.args.word.now in
     rw (
       eq-eqb (length word) 8 (omega arith),
       eq-eqb (get_or word 2 0) 58 (omega arith),
@@ -31,9 +29,8 @@ returns-then-word-ne58-2 c =
 pub returns : goal.returns
 unfolding time_of
 returns c =
-    let e = c in
-    let word = e.args.word.now in
+    let word = c.args.word.now in
     let size : length word ≡ 8 = omega arith in
-    let first : get_or word 2 0 ≡ 58 = e.if-word-ne58.false in
-    let other : get_or word 5 0 ≡ 58 = e.if-word-ne58-2.false in
+    let first : get_or word 2 0 ≡ 58 = c.if-word-ne58.false in
+    let other : get_or word 5 0 ≡ 58 = c.if-word-ne58-2.false in
     rw (eq-eqb (length word) 8 size, eq-eqb (get_or word 2 0) 58 first, eq-eqb (get_or word 5 0) 58 other) (cc)

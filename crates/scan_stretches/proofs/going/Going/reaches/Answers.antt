@@ -7,5 +7,4 @@ returns-then-not-self c = rw (not-true c.args.self.is_open c.if-not-self.true)
 
 pub returns : goal.returns
 returns c =
-    let e = c in
-    rw (not-false e.args.self.is_open e.if-not-self.false, c.seconds.ensures)
+    rw (not-false c.args.self.is_open c.if-not-self.false, c.seconds.ensures)

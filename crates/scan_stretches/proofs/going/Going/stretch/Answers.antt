@@ -7,5 +7,4 @@ returns-then-reaches c = rw (sym c.reaches.ensures ∙ c.if-reaches.true)
 
 pub returns : goal.returns
 returns c =
-    let e = c in
-    rw (sym e.reaches.ensures ∙ e.if-reaches.false, c.touches_lost-touches_lost.ensures, c.one_more.ensures)
+    rw (sym c.reaches.ensures ∙ c.if-reaches.false, c.touches_lost-touches_lost.ensures, c.one_more.ensures)
