@@ -1,6 +1,6 @@
 // The two streams that a program writes, and why one was last not taken.
 use std::cell::Cell;
-use std::io::{Error, Print, Stderr, Stdout};
+use std::io::{Error, ErrorKind, Print, Stderr, Stdout};
 
 #[derive(Clone, Copy)]
 pub enum Stream {
@@ -26,6 +26,9 @@ impl Streams {
 
     // Writes all bytes, or stops where they are not taken: were they.
     pub fn write_all(&self, to: Stream, bytes: &[u8]) -> bool {
+        if self.is_closed() {
+            return false;
+        }
         let written = match to {
             Stream::Output => self.output.write_all(bytes),
             Stream::Errors => self.errors.write_all(bytes),
@@ -33,9 +36,22 @@ impl Streams {
         match written {
             Ok(()) => true,
             Err(error) => {
-                self.failure.set(Some(error));
+                self.fails(error);
                 false
             }
+        }
+    }
+
+    // Keeps why bytes were not taken.
+    pub fn fails(&self, error: Error) {
+        self.failure.set(Some(error));
+    }
+
+    // Has the reader of what is written gone: nothing more is written then.
+    pub fn is_closed(&self) -> bool {
+        match self.failure.get() {
+            Some(error) => error.kind() == ErrorKind::BrokenPipe,
+            None => false,
         }
     }
 

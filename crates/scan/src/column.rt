@@ -132,7 +132,7 @@ fn walked<R: Env + Files>(
 ) -> SoFar {
     let mut so_far = before;
     let mut k: usize = 0;
-    while k < files.len() {
+    while k < files.len() && !system.streams.is_closed() {
         so_far = page_answered(
             system, so_far, q, column, files[k], k, dictionary, bitmap, selected, answered,
         );

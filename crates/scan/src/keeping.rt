@@ -47,13 +47,14 @@ pub fn kept<R: Env + Files>(
     let n = system.arg(asked.bitmap, &mut word);
     let from = asked.bitmap_from;
     let size = size_of(entries, pages.len());
-    if asked.bitmap == 0 || n < from || bitmap.len() < size {
+    if asked.bitmap == 0 || n < from || bitmap.len() < size || system.streams.is_closed() {
         return;
     }
     let Some(mut file) = opened(system, &word[from..n], first, pages) else {
         return;
     };
     if let Err(error) = file.write_all(&bitmap[0..size]) {
+        system.streams.fails(error);
         failed(system, b"scan: the bitmap cannot be written", error);
     }
 }

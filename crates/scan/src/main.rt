@@ -14,25 +14,38 @@ use scan_says::system::System;
 use scan_says::{Sentence, first_word, help, tell, version};
 use scan_words::names::{NOTHING, VERSION, instead};
 use std::env::Env;
+use std::fs::Files;
+use std::process::ExitCode;
 
-fn main(rt: HostRuntime) {
+// The status of a program whose output is read no further, as that of one which the system's signal ends.
+const UNREAD: u8 = 141;
+
+fn main(rt: HostRuntime) -> ExitCode {
     let system = System {
         rt: rt,
         streams: Streams::new(rt.stdout(), rt.stderr()),
     };
-    let first = first_word(&system);
+    answer(&system);
+    if system.streams.is_closed() {
+        return ExitCode::from(UNREAD);
+    }
+    ExitCode::SUCCESS
+}
+
+fn answer<R: Env + Files>(system: &System<R>) {
+    let first = first_word(system);
     if system.arg_count() <= first {
-        tell(&system, Sentence::Usage);
+        tell(system, Sentence::Usage);
         return;
     }
-    let plea = asked_instead(&system, first);
+    let plea = asked_instead(system, first);
     match plea {
-        NOTHING => asking::asked(&system),
+        NOTHING => asking::asked(system),
         VERSION => {
-            version(&system);
+            version(system);
         }
         _ => {
-            help(&system);
+            help(system);
         }
     }
 }

@@ -77,7 +77,7 @@ pub fn first_word<R: Env>(system: &System<R>) -> usize
 
 // A refusal or an error was said.
 fn noted<R: Env>(system: &System<R>) {
-    if first_word(system) == 2 {
+    if first_word(system) == 2 && !system.streams.is_closed() {
         io::write_all(3, b"1");
     }
 }
