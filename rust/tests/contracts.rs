@@ -81,6 +81,19 @@ fn every_public_function_has_its_contract() {
     );
 }
 
+/// The lines of a function's head as one, however its parameters are broken into lines.
+fn joined(head: &[&str]) -> String {
+    let words: Vec<&str> = head
+        .iter()
+        .flat_map(|line| line.split_whitespace())
+        .collect();
+    words
+        .join(" ")
+        .replace("( ", "(")
+        .replace(", )", ")")
+        .replace(",)", ")")
+}
+
 /// What C calls promises what the library's function of the same name does, word for word.
 #[test]
 fn the_exported_functions_have_the_clauses_of_the_library() {
@@ -94,10 +107,8 @@ fn the_exported_functions_have_the_clauses_of_the_library() {
         });
         let known = functions(&library);
         for function in functions(&exported) {
-            let plain = function.head[0].replace("pub extern \"C\" fn", "pub fn");
-            let same = known
-                .iter()
-                .any(|other| other.head[0] == plain && other.head[1..] == function.head[1..]);
+            let words = joined(&function.head).replace("pub extern \"C\" fn", "pub fn");
+            let same = known.iter().any(|other| joined(&other.head) == words);
             assert!(
                 same,
                 "{} has other clauses than the library's",
