@@ -125,7 +125,8 @@ fn the_package_keeps_the_number_of_a_code_that_it_has_no_name_for() {
 fn arm<'a>(before: &'a str, behind: &'a str) -> Option<[&'a str; 2]> {
     let number = before.split_whitespace().last()?;
     number.parse::<u32>().ok()?;
-    let words = behind.trim_start().strip_prefix("streams, b\"")?;
+    let words = behind.trim_start().strip_prefix("streams,")?;
+    let words = words.trim_start().strip_prefix("b\"")?;
     Some([number, words.split_once('"')?.0])
 }
 

@@ -59,14 +59,26 @@ fn sources(folder: &Path) -> Vec<PathBuf> {
         .collect()
 }
 
+/// What reaches the words typed, files and streams, where libraries of the toolchain stood before: no contract can say what
+/// the system gives or takes.
+const OF_THE_SYSTEM: [&str; 3] = [
+    "lines/src/streams.rt",
+    "scan_says/src/system.rt",
+    "scan_says/src/reasons.rt",
+];
+
 #[test]
 fn every_public_function_has_its_contract() {
     let crates = Path::new(env!("CARGO_MANIFEST_DIR")).join("../crates");
     let folders = fs::read_dir(&crates).expect("the folder crates");
     let folders = folders.map(|folder| folder.expect("a crate's folder").path().join("src"));
     let libraries = folders.filter(|src| src.join("lib.rt").exists());
-    let (mut all, mut exported) = (0, 0);
+    let (mut all, mut exported, mut of_the_system) = (0, 0, 0);
     for path in libraries.flat_map(|src| sources(&src)) {
+        if OF_THE_SYSTEM.iter().any(|file| path.ends_with(file)) {
+            of_the_system += 1;
+            continue;
+        }
         let text = fs::read_to_string(&path).expect("a source");
         for function in functions(&text) {
             let (name, file) = (function.name, path.display());
@@ -75,6 +87,7 @@ fn every_public_function_has_its_contract() {
             exported += usize::from(function.is_exported);
         }
     }
+    assert_eq!(of_the_system, OF_THE_SYSTEM.len());
     assert!(
         all > 180 && exported >= 24,
         "{all} public functions and {exported} exported ones were found"
