@@ -121,11 +121,12 @@ fn the_package_keeps_the_number_of_a_code_that_it_has_no_name_for() {
     }
 }
 
-/// The number and the words of an arm `NUMBER => say(b"WORDS")`, from what is before and behind `=> say(`.
+/// The number and the words of an arm `NUMBER => say(streams, b"WORDS")`, from what is before and behind `=> say(`.
 fn arm<'a>(before: &'a str, behind: &'a str) -> Option<[&'a str; 2]> {
     let number = before.split_whitespace().last()?;
     number.parse::<u32>().ok()?;
-    let words = behind.trim_start().strip_prefix("b\"")?;
+    let words = behind.trim_start().strip_prefix("streams,")?;
+    let words = words.trim_start().strip_prefix("b\"")?;
     Some([number, words.split_once('"')?.0])
 }
 

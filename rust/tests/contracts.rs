@@ -59,14 +59,26 @@ fn sources(folder: &Path) -> Vec<PathBuf> {
         .collect()
 }
 
+/// What reaches the words typed, files and streams, where libraries of the toolchain stood before: no contract can say what
+/// the system gives or takes.
+const OF_THE_SYSTEM: [&str; 3] = [
+    "lines/src/streams.rt",
+    "scan_says/src/system.rt",
+    "scan_says/src/reasons.rt",
+];
+
 #[test]
 fn every_public_function_has_its_contract() {
     let crates = Path::new(env!("CARGO_MANIFEST_DIR")).join("../crates");
     let folders = fs::read_dir(&crates).expect("the folder crates");
     let folders = folders.map(|folder| folder.expect("a crate's folder").path().join("src"));
     let libraries = folders.filter(|src| src.join("lib.rt").exists());
-    let (mut all, mut exported) = (0, 0);
+    let (mut all, mut exported, mut of_the_system) = (0, 0, 0);
     for path in libraries.flat_map(|src| sources(&src)) {
+        if OF_THE_SYSTEM.iter().any(|file| path.ends_with(file)) {
+            of_the_system += 1;
+            continue;
+        }
         let text = fs::read_to_string(&path).expect("a source");
         for function in functions(&text) {
             let (name, file) = (function.name, path.display());
@@ -75,10 +87,24 @@ fn every_public_function_has_its_contract() {
             exported += usize::from(function.is_exported);
         }
     }
+    assert_eq!(of_the_system, OF_THE_SYSTEM.len());
     assert!(
         all > 180 && exported >= 24,
         "{all} public functions and {exported} exported ones were found"
     );
+}
+
+/// The lines of a function's head as one, however its parameters are broken into lines.
+fn joined(head: &[&str]) -> String {
+    let words: Vec<&str> = head
+        .iter()
+        .flat_map(|line| line.split_whitespace())
+        .collect();
+    words
+        .join(" ")
+        .replace("( ", "(")
+        .replace(", )", ")")
+        .replace(",)", ")")
 }
 
 /// What C calls promises what the library's function of the same name does, word for word.
@@ -94,10 +120,8 @@ fn the_exported_functions_have_the_clauses_of_the_library() {
         });
         let known = functions(&library);
         for function in functions(&exported) {
-            let plain = function.head[0].replace("pub extern \"C\" fn", "pub fn");
-            let same = known
-                .iter()
-                .any(|other| other.head[0] == plain && other.head[1..] == function.head[1..]);
+            let words = joined(&function.head).replace("pub extern \"C\" fn", "pub fn");
+            let same = known.iter().any(|other| joined(&other.head) == words);
             assert!(
                 same,
                 "{} has other clauses than the library's",

@@ -17,6 +17,7 @@ case $1 in
 doc) echo \"$PWD/kit/guide\" ;;
 version) cat kit/id ;;
 lib)
+    echo 'rt: chose --jobs 2 for cahermisk'
     if [ -e ../../wrong ]; then
         echo 'an error of the prover'
         echo 'crate cahermisk: modules loaded=1 checked=2'

@@ -38,8 +38,14 @@ select-requires c =
     let a = c.args in
     let found : c.first_fault-code.result
     ≡ (room_fault (length a.bitmap.now) (ceil a.n 8) then page_fault low_first a.page.now a.width a.n) = cc in
-    let g = good (length a.bitmap.now) a.width a.n a.page.now (sym found ∙ omega arith) in
-    (omega arith, omega arith, omega (arith, g.1), omega (arith, g.1), omega (arith, g.0), rw c.range_of.ensures (range-usable _))
+    let g = good (length a.bitmap.now) a.width a.n a.page.now (sym found ∙ omega arith) in (
+      omega arith,
+      omega arith,
+      omega (arith, g.1),
+      omega (arith, g.1),
+      omega (arith, g.0),
+      rw c.range_of.ensures (range-usable _),
+    )
 
 pub counted-requires : goal.counted-requires
 counted-requires c =

@@ -20,7 +20,8 @@ returns-then-limits-ne0 c =
 
 pub page_size-size-requires : goal.page_size-size-requires
 page_size-size-requires c =
-    let kept : length c.args.entries.now ≤ 16384 = within_count _ (sym c.signed_fault-limits.ensures ∙ c.if-limits-ne0.false) in
+    let kept : length c.args.entries.now ≤ 16384 =
+    within_count _ (sym c.signed_fault-limits.ensures ∙ c.if-limits-ne0.false) in
     kept
 
 pub returns-then-code-ne0 : goal.returns-then-code-ne0
@@ -38,7 +39,8 @@ returns-then-code-ne0 c =
 
 pub put_page-requires : goal.put_page-requires
 put_page-requires c =
-    let kept : length c.args.entries.now ≤ 16384 = within_count _ (sym c.signed_fault-limits.ensures ∙ c.if-limits-ne0.false) in
+    let kept : length c.args.entries.now ≤ 16384 =
+    within_count _ (sym c.signed_fault-limits.ensures ∙ c.if-limits-ne0.false) in
     let f = c in (
       kept,
       rw f.page_size-size.ensures.sized at

@@ -20,17 +20,20 @@ returns-then-limits-ne0 c =
 
 pub overflow_mul-bytes : goal.overflow_mul-bytes
 overflow_mul-bytes c =
-    let kept : let a = c.args in (a.width ≤ 32) × (length a.entries.now ≤ 16384) = within-limits _ _ (sym c.unsigned_fault-limits.ensures ∙ c.if-limits-ne0.false) in
+    let kept : let a = c.args in (a.width ≤ 32) × (length a.entries.now ≤ 16384) =
+    within-limits _ _ (sym c.unsigned_fault-limits.ensures ∙ c.if-limits-ne0.false) in
     let k = kept in omega (arith, bits_le _ _ k.0 k.1)
 
 pub overflow_add-bytes : goal.overflow_add-bytes
 overflow_add-bytes c =
-    let kept : let a = c.args in (a.width ≤ 32) × (length a.entries.now ≤ 16384) = within-limits _ _ (sym c.unsigned_fault-limits.ensures ∙ c.if-limits-ne0.false) in
+    let kept : let a = c.args in (a.width ≤ 32) × (length a.entries.now ≤ 16384) =
+    within-limits _ _ (sym c.unsigned_fault-limits.ensures ∙ c.if-limits-ne0.false) in
     let k = kept in omega (arith, bits_le _ _ k.0 k.1)
 
 pub entries_fault-code-requires : goal.entries_fault-code-requires
 entries_fault-code-requires c =
-    let kept : let a = c.args in (a.width ≤ 32) × (length a.entries.now ≤ 16384) = within-limits _ _ (sym c.unsigned_fault-limits.ensures ∙ c.if-limits-ne0.false) in
+    let kept : let a = c.args in (a.width ≤ 32) × (length a.entries.now ≤ 16384) =
+    within-limits _ _ (sym c.unsigned_fault-limits.ensures ∙ c.if-limits-ne0.false) in
     (kept).0
 
 pub returns-then-code-ne0 : goal.returns-then-code-ne0
@@ -45,14 +48,16 @@ returns-then-code-ne0 c =
 
 pub pack-requires : goal.pack-requires
 pack-requires c =
-    let kept : let a = c.args in (a.width ≤ 32) × (length a.entries.now ≤ 16384) = within-limits _ _ (sym c.unsigned_fault-limits.ensures ∙ c.if-limits-ne0.false) in
+    let kept : let a = c.args in (a.width ≤ 32) × (length a.entries.now ≤ 16384) =
+    within-limits _ _ (sym c.unsigned_fault-limits.ensures ∙ c.if-limits-ne0.false) in
     let k = kept in
     let z = then_zero _ _ (sym c.entries_fault-code.ensures ∙ c.if-code-ne0.false) in
     (k.0, k.1, fits_of _ _ z.0, has_room _ _ z.1)
 
 pub overflow_cast-bytes-2 : goal.overflow_cast-bytes-2
 overflow_cast-bytes-2 c =
-    let kept : let a = c.args in (a.width ≤ 32) × (length a.entries.now ≤ 16384) = within-limits _ _ (sym c.unsigned_fault-limits.ensures ∙ c.if-limits-ne0.false) in
+    let kept : let a = c.args in (a.width ≤ 32) × (length a.entries.now ≤ 16384) =
+    within-limits _ _ (sym c.unsigned_fault-limits.ensures ∙ c.if-limits-ne0.false) in
     let k = kept in omega (arith, bits_le _ _ k.0 k.1)
 
 pub returns : goal.returns

@@ -19,12 +19,14 @@ returns-then-limits-ne0 c =
 
 pub stream_size-bytes-requires : goal.stream_size-bytes-requires
 stream_size-bytes-requires c =
-    let kept : let a = c.args in (a.width ≤ 32) × (length a.entries.now ≤ 16384) = within-limits _ _ (sym c.unsigned_fault-limits.ensures ∙ c.if-limits-ne0.false) in
+    let kept : let a = c.args in (a.width ≤ 32) × (length a.entries.now ≤ 16384) =
+    within-limits _ _ (sym c.unsigned_fault-limits.ensures ∙ c.if-limits-ne0.false) in
     kept
 
 pub entries_fault-code-requires : goal.entries_fault-code-requires
 entries_fault-code-requires c =
-    let kept : let a = c.args in (a.width ≤ 32) × (length a.entries.now ≤ 16384) = within-limits _ _ (sym c.unsigned_fault-limits.ensures ∙ c.if-limits-ne0.false) in
+    let kept : let a = c.args in (a.width ≤ 32) × (length a.entries.now ≤ 16384) =
+    within-limits _ _ (sym c.unsigned_fault-limits.ensures ∙ c.if-limits-ne0.false) in
     (kept).0
 
 pub returns-then-code-ne0 : goal.returns-then-code-ne0
@@ -46,7 +48,8 @@ returns-then-code-ne0 c =
 
 pub put_stream-requires : goal.put_stream-requires
 put_stream-requires c =
-    let kept : let a = c.args in (a.width ≤ 32) × (length a.entries.now ≤ 16384) = within-limits _ _ (sym c.unsigned_fault-limits.ensures ∙ c.if-limits-ne0.false) in
+    let kept : let a = c.args in (a.width ≤ 32) × (length a.entries.now ≤ 16384) =
+    within-limits _ _ (sym c.unsigned_fault-limits.ensures ∙ c.if-limits-ne0.false) in
     let judged : let a = c.args in
     c.entries_fault-code.result
     ≡ (large_fault a.width a.entries.now
@@ -61,7 +64,8 @@ put_stream-requires c =
 
 pub overflow_cast-bytes : goal.overflow_cast-bytes
 overflow_cast-bytes c =
-    let kept : let a = c.args in (a.width ≤ 32) × (length a.entries.now ≤ 16384) = within-limits _ _ (sym c.unsigned_fault-limits.ensures ∙ c.if-limits-ne0.false) in
+    let kept : let a = c.args in (a.width ≤ 32) × (length a.entries.now ≤ 16384) =
+    within-limits _ _ (sym c.unsigned_fault-limits.ensures ∙ c.if-limits-ne0.false) in
     let s = c in
     let a = s.args in
     let k = kept in

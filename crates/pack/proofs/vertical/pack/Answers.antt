@@ -19,17 +19,20 @@ returns-then-limits-ne0 c =
 
 pub overflow_add-need : goal.overflow_add-need
 overflow_add-need c =
-    let kept : let a = c.args in (a.width ≤ 32) × (length a.entries.now ≤ 16384) = within-limits _ _ (sym c.unsigned_fault-limits.ensures ∙ c.if-limits-ne0.false) in
+    let kept : let a = c.args in (a.width ≤ 32) × (length a.entries.now ≤ 16384) =
+    within-limits _ _ (sym c.unsigned_fault-limits.ensures ∙ c.if-limits-ne0.false) in
     let k = kept in omega (arith, words_le _ _ k.0 k.1)
 
 pub overflow_mul-need : goal.overflow_mul-need
 overflow_mul-need c =
-    let kept : let a = c.args in (a.width ≤ 32) × (length a.entries.now ≤ 16384) = within-limits _ _ (sym c.unsigned_fault-limits.ensures ∙ c.if-limits-ne0.false) in
+    let kept : let a = c.args in (a.width ≤ 32) × (length a.entries.now ≤ 16384) =
+    within-limits _ _ (sym c.unsigned_fault-limits.ensures ∙ c.if-limits-ne0.false) in
     let k = kept in omega (arith, words_le _ _ k.0 k.1)
 
 pub entries_fault-code-requires : goal.entries_fault-code-requires
 entries_fault-code-requires c =
-    let kept : let a = c.args in (a.width ≤ 32) × (length a.entries.now ≤ 16384) = within-limits _ _ (sym c.unsigned_fault-limits.ensures ∙ c.if-limits-ne0.false) in
+    let kept : let a = c.args in (a.width ≤ 32) × (length a.entries.now ≤ 16384) =
+    within-limits _ _ (sym c.unsigned_fault-limits.ensures ∙ c.if-limits-ne0.false) in
     (kept).0
 
 pub returns-then-code-ne0 : goal.returns-then-code-ne0
@@ -44,14 +47,16 @@ returns-then-code-ne0 c =
 
 pub pack_groups-requires : goal.pack_groups-requires
 pack_groups-requires c =
-    let kept : let a = c.args in (a.width ≤ 32) × (length a.entries.now ≤ 16384) = within-limits _ _ (sym c.unsigned_fault-limits.ensures ∙ c.if-limits-ne0.false) in
+    let kept : let a = c.args in (a.width ≤ 32) × (length a.entries.now ≤ 16384) =
+    within-limits _ _ (sym c.unsigned_fault-limits.ensures ∙ c.if-limits-ne0.false) in
     let k = kept in
     let z = then_zero _ _ (sym c.entries_fault-code.ensures ∙ c.if-code-ne0.false) in
     (k.0, k.1, has_room _ _ z.1)
 
 pub overflow_cast-need-2 : goal.overflow_cast-need-2
 overflow_cast-need-2 c =
-    let kept : let a = c.args in (a.width ≤ 32) × (length a.entries.now ≤ 16384) = within-limits _ _ (sym c.unsigned_fault-limits.ensures ∙ c.if-limits-ne0.false) in
+    let kept : let a = c.args in (a.width ≤ 32) × (length a.entries.now ≤ 16384) =
+    within-limits _ _ (sym c.unsigned_fault-limits.ensures ∙ c.if-limits-ne0.false) in
     let k = kept in omega (arith, words_le _ _ k.0 k.1)
 
 pub returns : goal.returns

@@ -10,7 +10,8 @@ use Rattle.packed_entries.proofs.chunks.pack_chunks.Given as goal
 
 abbrev pub invariant-loop-j : goal.invariant-loop-j
 invariant-loop-j l =
-    (l.j ≤ l.c) × (length l.part ≡ length l.initial.part) × (l.part ≡ put l.initial.part 0 (packed low_first l.w (take (l.j * l.k) (drop l.i l.entries))))
+    (l.j ≤ l.c) × (length l.part ≡ length l.initial.part)
+    × (l.part ≡ put l.initial.part 0 (packed low_first l.w (take (l.j * l.k) (drop l.i l.entries))))
 
 abbrev pub decreases-loop-j : goal.decreases-loop-j
 decreases-loop-j l = l.c - l.j

@@ -8,7 +8,8 @@ use Rattle.packed_entries.proofs.unpacking.unpack.Given as goal
 
 abbrev pub invariant-loop-i : goal.invariant-loop-i
 invariant-loop-i l =
-    (l.i ≤ l.n) × (length l.entries ≡ length l.initial.entries) × (l.entries ≡ put l.initial.entries 0 (tabulate l.i (entry low_first l.page l.w)))
+    (l.i ≤ l.n) × (length l.entries ≡ length l.initial.entries)
+    × (l.entries ≡ put l.initial.entries 0 (tabulate l.i (entry low_first l.page l.w)))
 
 abbrev pub decreases-loop-i : goal.decreases-loop-i
 decreases-loop-i l = l.n - l.i

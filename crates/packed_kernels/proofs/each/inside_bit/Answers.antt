@@ -14,4 +14,7 @@ returns c =
     let t : leb d a.span ≡ inside a.low (a.low + a.span) a.x =
     by_difference a.low a.span a.x d (omega arith) (omega arith) (omega arith)
     c.wrapping_sub_u32.ensures.value in
-    record { told = byte_flag (leb d a.span) ∙ ap flag t; small = omega (arith, byte_flag (leb d a.span), flag_lt (leb d a.span)) }
+    record {
+      told = byte_flag (leb d a.span) ∙ ap flag t;
+      small = omega (arith, byte_flag (leb d a.span), flag_lt (leb d a.span));
+    }

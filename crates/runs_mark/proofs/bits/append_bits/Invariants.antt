@@ -8,7 +8,8 @@ use Rattle.runs_mark.proofs.bits.append_bits.Given as goal
 
 abbrev pub invariant-loop-i : goal.invariant-loop-i
 invariant-loop-i l =
-    (8 * l.i < l.k) × (length l.bitmap ≡ length l.initial.bitmap) × Begun l.initial.bitmap l.p (number l.bits % 2 ^ (8 * l.i)) (8 * l.i) l.bitmap
+    (8 * l.i < l.k) × (length l.bitmap ≡ length l.initial.bitmap)
+    × Begun l.initial.bitmap l.p (number l.bits % 2 ^ (8 * l.i)) (8 * l.i) l.bitmap
 
 abbrev pub decreases-loop-i : goal.decreases-loop-i
 decreases-loop-i l = l.k - 8 * l.i

@@ -12,7 +12,8 @@ use Rattle.runs_mark.proofs.packed.mark_inside.Given as goal
 abbrev pub invariant-loop-g : goal.invariant-loop-g
 invariant-loop-g l =
     (8 * l.g < l.m) × (l.at ≡ l.g * l.w) × (length l.bitmap ≡ length l.initial.bitmap)
-    × Begun l.initial.bitmap l.p (word (8 * l.g) (λ k. ranged l.range (entry low_first l.body l.w k))) (8 * l.g) l.bitmap
+    × Begun l.initial.bitmap l.p (word (8 * l.g) (λ k. ranged l.range (entry low_first l.body l.w k)))
+    (8 * l.g) l.bitmap
 
 abbrev pub decreases-loop-g : goal.decreases-loop-g
 decreases-loop-g l = l.m - 8 * l.g
