@@ -1,11 +1,17 @@
 -- The two ways in which a call ends, for every layout and operation.
-use Rattle.std.specs.Prelude.{◌≡◌, refl, List, Bool, true, false, ltb}
-use Rattle.std.proofs.Common.{sym, arith, ltb-false}
+use Rattle.std.specs.Prelude.{◌≡◌, refl, List, Bool, true, false, ltb, Result, Ok, Err, IsErr, IsErrAnd}
+use Rattle.std.proofs.Common.{sym, ap, arith, ltb-false}
 use Prim.Native.Nat.{ℕ, zero, suc, ◌≤◌}
 use Rattle.rules.specs.Bits.{put}
 use Rattle.rules.specs.Answer.{faulty, ◌then◌, count_fault, limit_fault, room_fault, accepted, refusal, answered}
 use Rattle.rules.specs.Answer.Outcome.{outcome}
+use Rattle.rules.specs.Refusals.{code, fault, answer_of}
 use Rattle.rules.specs.declared.Answer.{Answer}
+use Rattle.rules.specs.declared.Refusal.{Refusal}
+use Rattle.rules.specs.declared.Refusal.TheVariants.{WidthAboveLimit, TooManyEntries, OperatorAbove7, OutputTooShort}
+use Rattle.rules.specs.declared.Refusal.TheVariants.{InputEndsTooEarly, InputLeftOver, UnusedBitsNot0, ValueTooLarge}
+use Rattle.rules.specs.declared.Refusal.TheVariants.{NumberBeyondItsBits, RunOfLength0, RunPastN, DeltaShape}
+use Rattle.rules.specs.declared.Refusal.TheVariants.{DeltaCountNotN, MalformedDictionary, IndexTooLarge, SpansMisplaced}
 
 -- ---- the order of faults
 
@@ -26,6 +32,38 @@ pub then_last : (a b : ℕ) → b ≡ 0 → (a then b) ≡ a
 unfolding ◌then◌
 then_last zero b e = e
 then_last (suc a) b e = refl
+
+-- no refusal's number is 0
+pub code_some : (r : Refusal) → code r ≡ 0 → ⊥
+code_some WidthAboveLimit e = omega (arith, e)
+code_some TooManyEntries e = omega (arith, e)
+code_some OperatorAbove7 e = omega (arith, e)
+code_some OutputTooShort e = omega (arith, e)
+code_some InputEndsTooEarly e = omega (arith, e)
+code_some InputLeftOver e = omega (arith, e)
+code_some UnusedBitsNot0 e = omega (arith, e)
+code_some ValueTooLarge e = omega (arith, e)
+code_some NumberBeyondItsBits e = omega (arith, e)
+code_some RunOfLength0 e = omega (arith, e)
+code_some RunPastN e = omega (arith, e)
+code_some DeltaShape e = omega (arith, e)
+code_some DeltaCountNotN e = omega (arith, e)
+code_some MalformedDictionary e = omega (arith, e)
+code_some IndexTooLarge e = omega (arith, e)
+code_some SpansMisplaced e = omega (arith, e)
+
+-- a judgement that refuses ends the search, and one that does not lets it go on
+pub then_refused : (a b : ℕ) (r : Refusal) → code r ≡ a → (a then b) ≡ code r
+then_refused a b r e = then_found a b (code r) (sym e) (code_some r)
+
+pub then_judged : (a b : ℕ) → 0 ≡ a → (a then b) ≡ b
+then_judged a b e = then_none a b (sym e)
+
+-- what a `?` passes up is the refusal itself
+pub passed_up : {A : Type 0} (came : Result A Refusal) (r : Refusal) → IsErr came × IsErrAnd came (λ x. x ≡ r)
+    → came ≡ Err r
+passed_up (Ok x) r h = absurd h.1
+passed_up (Err x) r h = ap Err h.1
 
 -- what is known where no fault was found
 pub not-faulty : (t : Bool) (code : ℕ) → (code ≡ 0 → ⊥) → faulty t code ≡ 0 → t ≡ false
@@ -59,6 +97,11 @@ module _ {A : Type 0} (n : ℕ) (wrote before : List A) where
   unfolding answered
   refused_is r zero fault e f some = absurd (some refl)
   refused_is r (suc code) fault e f some = rw (e, f)
+
+  -- likewise where a refusal is given
+  pub refused_call : (r : Refusal) (found : ℕ) → found ≡ code r
+      → outcome (answer_of (Err r)) before ≡ answered found n wrote before
+  refused_call r found e = refused_is (refusal (code r)) (code r) found refl e (code_some r)
 
   -- no fault was found, and all was written
   pub accepted_is : (r : Answer) (fault : ℕ) (after : List A) → fault ≡ 0 → r ≡ accepted n

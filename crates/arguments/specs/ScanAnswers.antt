@@ -1,7 +1,7 @@
 -- From the arguments' judgement to the answer of a scan, for every layout and every kind of column.
 use Rattle.std.proofs.Math.Path.{◌≡◌, refl, ap}
 use Rattle.std.proofs.Common.{sym, ◌∙◌, arith}
-use Rattle.std.specs.Prelude.{Bool, List, ℤ, pos}
+use Rattle.std.specs.Prelude.{Bool, List, ℤ, pos, Option, Some, None}
 use Prim.Native.Nat.{ℕ, zero, suc, ◌≤◌, ◌<◌}
 use Rattle.rules.specs.Comparison.{holds}
 use Rattle.rules.specs.Signed.{Within}
@@ -14,15 +14,13 @@ use Rattle.compare.specs.Band.{banded, band_of}
 use Rattle.compare.specs.Operators.{holds-band}
 use Rattle.compare.specs.OperatorFault.{operator_found, operator_none}
 use Rattle.compare.specs.declared.bands.Band.{Band}
-use Rattle.compare.specs.declared.bands.Comparison.{Comparison}
-use Rattle.compare.specs.declared.bands.Comparison.TheVariants.{Of, Unknown}
 use Rattle.arguments.specs.Arguments.{judged, arguments_of}
-use Rattle.arguments.specs.declared.Arguments.TheVariants.{Good, Bad}
+use Rattle.arguments.specs.Arguments.Arguments.{Good, Bad}
 
 -- what good arguments tell, after the limits' code
 pub record Known (limits op : ℕ) (a b : ℤ) (band : Band) : Type 0 where
   pub within : limits ≡ 0
-  pub chosen : band_of op a b ≡ Of band
+  pub chosen : band_of op a b ≡ Some band
   pub none : (rest : ℕ) → (limits then operator_fault op then rest) ≡ rest
 
 module _ (limits op : ℕ) (a b : ℤ) where
@@ -30,16 +28,16 @@ module _ (limits op : ℕ) (a b : ℤ) where
   unfolding arguments_of judged
   good_arguments band = go limits refl (band_of op a b) refl
     where
-      go : (code : ℕ) → limits ≡ code → (c : Comparison) → band_of op a b ≡ c → judged code c ≡ Good band
+      go : (code : ℕ) → limits ≡ code → (c : Option Band) → band_of op a b ≡ c → judged code c ≡ Good band
           → Known limits op a b band
-      go zero e (Of x) f g =
+      go zero e (Some x) f g =
           let same : x ≡ band = cc in
           record {
             within = e;
-            chosen = f ∙ ap Of same;
+            chosen = f ∙ ap Some same;
             none = λ rest. then_none _ _ e ∙ then_none _ _ (operator_none op a b x f);
           }
-      go zero e Unknown f g = let z : ◌≡◌ {A = ℕ} 0 1 = cc in absurd (omega arith)
+      go zero e None f g = let z : ◌≡◌ {A = ℕ} 0 1 = cc in absurd (omega arith)
       go (suc code) e c f g = let z : ◌≡◌ {A = ℕ} 0 1 = cc in absurd (omega arith)
 
   -- a scan refused for its arguments
@@ -49,11 +47,11 @@ module _ (limits op : ℕ) (a b : ℤ) where
   unfolding arguments_of judged
   scan-bad rest m test before r code = go limits refl (band_of op a b) refl
     where
-      go : (found : ℕ) → limits ≡ found → (c : Comparison) → band_of op a b ≡ c → judged found c ≡ Bad code
+      go : (found : ℕ) → limits ≡ found → (c : Option Band) → band_of op a b ≡ c → judged found c ≡ Bad code
           → r ≡ refusal code
           → outcome r before ≡ scanned (limits then operator_fault op then rest) m test before
-      go zero e (Of x) f g k = let z : ◌≡◌ {A = ℕ} 0 1 = cc in absurd (omega arith)
-      go zero e Unknown f g k =
+      go zero e (Some x) f g k = let z : ◌≡◌ {A = ℕ} 0 1 = cc in absurd (omega arith)
+      go zero e None f g k =
           let three : 3 ≡ code = cc in
           refused_is _ _ _ r code _ k
           (then_none _ _ e ∙ then_found _ _ _ (operator_found op a b f ∙ three) (λ z. omega arith))

@@ -4,11 +4,9 @@
 ghost use Rattle.std.specs.Prelude.{◌≡◌, ◌≤◌, length, take};
 ghost use Rattle.rules.specs.Bits.{ceil, flag, bit_at};
 ghost use Rattle.rules.specs.Bits.Order.{low_first};
-ghost use Rattle.rules.specs.Answer.{accepted};
 ghost use Rattle.bitmaps.specs.Counts.{count_ones};
 ghost use Rattle.bitmaps.specs.Trimmed.{trimmed};
 
-use rules::Answer;
 use words::loads::load8;
 
 // Is bit i set; past the end none is.
@@ -29,28 +27,21 @@ fn ones_in(bitmap: &[u8], m: usize) -> u32
 {
     let words = m / 8;
     let mut ones: u32 = 0;
-    let mut k: usize = 0;
-    while k < words {
+    for k in 0..words {
         ones += u64::count_ones(load8(bitmap, 8 * k));
-        k += 1;
     }
-    let mut i = 8 * words;
-    while i < m {
+    for i in 8 * words..m {
         ones += u8::count_ones(bitmap[i]);
-        i += 1;
     }
     ones
 }
 
-// The answer of every scan of n entries, once its bitmap is in place: the number of set bits.
-pub fn counted(bitmap: &[u8], n: usize) -> Answer
+// The number of every scan of n entries, once its bitmap is in place: how many bits are set.
+pub fn counted(bitmap: &[u8], n: usize) -> u32
     requires { (n ≤ 16384) × (ceil n 8 ≤ length bitmap.now) }
-    ensures { result ≡ accepted (count_ones (take (ceil n 8) bitmap.now)) }
+    ensures { result ≡ count_ones (take (ceil n 8) bitmap.now) }
 {
-    Answer {
-        code: 0,
-        number: ones_in(bitmap, (n + 7) / 8),
-    }
+    ones_in(bitmap, (n + 7) / 8)
 }
 
 // Clears the bits past n in the byte that holds bit n.

@@ -1,9 +1,7 @@
 -- A band of whole numbers, and the bands of the operators.
-use Rattle.std.specs.Prelude.{ℕ, Bool, true, false, not, List, [], ◌∷◌, map, ℤ, pos, negsuc, slice_index_or}
+use Rattle.std.specs.Prelude.{ℕ, Bool, true, false, not, List, [], ◌∷◌, map, ℤ, pos, negsuc, slice_index_or, Option, Some, None}
 use Rattle.rules.specs.Comparison.{between}
 use Rattle.compare.specs.declared.bands.Band.{Band}
-use Rattle.compare.specs.declared.bands.Comparison.{Comparison}
-use Rattle.compare.specs.declared.bands.Comparison.TheVariants.{Of, Unknown}
 
 -- the second, or where the first holds its negation
 abbrev pub turned : Bool → Bool → Bool
@@ -37,5 +35,5 @@ bands a b =
     ∷ band a b true
     ∷ []
 
-unfoldable pub band_of : ℕ → ℤ → ℤ → Comparison
-band_of op a b = slice_index_or (map Of (bands a b)) op Unknown
+unfoldable pub band_of : ℕ → ℤ → ℤ → Option Band
+band_of op a b = slice_index_or (map Some (bands a b)) op None

@@ -1,7 +1,6 @@
 // What an operator number and two constants come to.
 ghost use Rattle.std.specs.Prelude.{◌≡◌};
 ghost use Rattle.compare.specs.Band.{band, band_of};
-ghost use Rattle.compare.specs.declared.bands.Comparison.TheVariants.{Of};
 
 // The eight operators are one test: from low to high with both ends, or where `outside` holds all others.
 #[derive(Clone, Copy)]
@@ -11,25 +10,15 @@ pub struct Band {
     pub outside: bool,
 }
 
-// What an operator number comes to.
-#[derive(Clone, Copy)]
-pub enum Comparison {
-    Of(Band),
-    Unknown,
-}
-
-fn known(low: i64, high: i64, outside: bool) -> Comparison
-    ensures { result ≡ Of (band low high outside) }
+fn known(low: i64, high: i64, outside: bool) -> Option<Band>
+    ensures { result ≡ Some (band low high outside) }
 {
-    Comparison::Of(Band {
-        low: low,
-        high: high,
-        outside: outside,
-    })
+    Some(Band { low, high, outside })
 }
 
-// Less is outside from a up, and greater outside from a down, so that no a + 1 is computed.
-pub fn band_of(op: u32, a: i64, b: i64) -> Comparison
+// The band of an operator, if there is one of this number. Less is outside from a up, and greater outside from a down,
+// so that no a + 1 is computed.
+pub fn band_of(op: u32, a: i64, b: i64) -> Option<Band>
     ensures { result ≡ band_of op a b }
 {
     match op {
@@ -41,6 +30,6 @@ pub fn band_of(op: u32, a: i64, b: i64) -> Comparison
         5 => known(a, i64::MAX, false),
         6 => known(a, b, false),
         7 => known(a, b, true),
-        8..=u32::MAX => Comparison::Unknown,
+        8..=u32::MAX => None,
     }
 }

@@ -2,7 +2,7 @@
 use Rattle.std.specs.Prelude.{◌≡◌, List, ℕ, ◌+◌, ◌*◌, ◌/◌, ◌≤◌, ◌<◌, ℤ, length}
 use Rattle.std.proofs.Common.{sym, ap, ◌∙◌, arith}
 use Rattle.rules.specs.Delta.{needed, block_at}
-use Rattle.rules.specs.declared.Block.{Block}
+use Rattle.rules.specs.Delta.{Block}
 use Rattle.delta_read.specs.Shapes.{Shape}
 use Rattle.delta_read.specs.BlockByBlock.{block_here}
 use Rattle.delta_decode.specs.declared.miniblocks.Miniblocks.{Miniblocks}

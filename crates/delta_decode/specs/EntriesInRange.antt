@@ -6,7 +6,7 @@ use Rattle.rules.specs.Bitmap.{bitmap}
 use Rattle.rules.specs.Signed.{zigzag, Within}
 use Rattle.rules.specs.Delta.{Deltas, blocks_at, begun, opened, read, page_entry}
 use Rattle.rules.specs.Delta.Deltas.{good, bad}
-use Rattle.rules.specs.declared.Head.{Head}
+use Rattle.rules.specs.Delta.{Head}
 use Rattle.signed.specs.Raised.{raised}
 use Rattle.signed.specs.Zigzags.{zigzag-within}
 use Rattle.signed.specs.Entries.{entry-within}

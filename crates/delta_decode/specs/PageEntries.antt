@@ -4,8 +4,8 @@ use Rattle.std.proofs.Common.{sym, ap, ◌∙◌, append_assoc, suc-mul, arith, 
 use Rattle.rules.specs.Signed.{zigzag, modulo, signed}
 use Rattle.rules.specs.Delta.{head_at, needed, Deltas, also, blocks_at, read, page_fault, entry_of, page_entry}
 use Rattle.rules.specs.Delta.Deltas.{good, bad}
-use Rattle.rules.specs.declared.Block.TheVariants.{Laid}
-use Rattle.rules.specs.declared.Head.TheVariants.{Opened}
+use Rattle.rules.specs.Delta.Block.{Laid}
+use Rattle.rules.specs.Delta.Head.{Opened}
 use Rattle.signed.specs.Raised.{raised}
 use Rattle.signed.specs.Reached.{reached}
 use Rattle.signed.specs.Zigzags.{zigzag-within}

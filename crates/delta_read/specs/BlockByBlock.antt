@@ -6,8 +6,8 @@ use Prim.Native.Nat.{ℕ, zero, suc, ◌+◌, ◌-◌, ◌/◌, ◌<◌, ◌≤�
 use Rattle.rules.specs.Signed.{zigzag}
 use Rattle.rules.specs.Delta.{needed, block_at, block_deltas, Deltas, also, at_end, after, blocks_at}
 use Rattle.rules.specs.Delta.Deltas.{good, bad}
-use Rattle.rules.specs.declared.Block.{Block}
-use Rattle.rules.specs.declared.Block.TheVariants.{Laid, Unlaid}
+use Rattle.rules.specs.Delta.{Block}
+use Rattle.rules.specs.Delta.Block.{Laid, Unlaid}
 
 pub also-also : (ds es : List ℤ) (x : Deltas) → also ds (also es x) ≡ also (ds ++ es) x
 also-also ds es (good fs) = ap good (sym (append_assoc ds es fs))

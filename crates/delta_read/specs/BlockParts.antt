@@ -5,8 +5,8 @@ use Prim.Native.Nat.{ℕ, zero, suc, ◌+◌, ◌-◌, ◌^◌, ◌<◌, ◌≤�
 use Rattle.rules.specs.Varint.{number_at}
 use Rattle.rules.specs.Delta.{width_fault, body_bytes, laid_at, block_at}
 use Rattle.rules.specs.declared.Number.TheVariants.{Read}
-use Rattle.rules.specs.declared.Block.{Block}
-use Rattle.rules.specs.declared.Block.TheVariants.{Laid, Unlaid}
+use Rattle.rules.specs.Delta.{Block}
+use Rattle.rules.specs.Delta.Block.{Laid, Unlaid}
 use Rattle.words.specs.Tests.{either}
 use Rattle.varints.specs.Places.{next-within}
 use Rattle.varints.specs.Fields.{by_field}

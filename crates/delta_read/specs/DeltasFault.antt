@@ -6,8 +6,8 @@ use Rattle.rules.specs.Signed.{zigzag}
 use Rattle.rules.specs.Delta.{head_at, needed, Deltas, also, at_end, after, blocks_at, begun, opened, read, page_fault}
 use Rattle.rules.specs.Delta.Deltas.{good, bad}
 use Rattle.rules.specs.Delta.Page.{holding}
-use Rattle.rules.specs.declared.Head.TheVariants.{Opened, Unopened}
-use Rattle.rules.specs.declared.Block.{Block}
+use Rattle.rules.specs.Delta.Head.{Opened, Unopened}
+use Rattle.rules.specs.Delta.{Block}
 use Rattle.delta_read.specs.Heads.{Opens, head-opens}
 use Rattle.delta_read.specs.Heads.Opens.{unopened}
 use Rattle.delta_read.specs.BlockParts.{Lies, block-lies}

@@ -3,8 +3,8 @@ use Rattle.std.specs.Prelude.{◌≡◌, true, List, ℕ, ◌^◌, ◌<◌, ◌�
 use Rattle.std.proofs.Common.{subst, arith}
 use Rattle.rules.specs.Varint.{number_at}
 use Rattle.rules.specs.Delta.{shaped, head_at}
-use Rattle.rules.specs.declared.Head.{Head}
-use Rattle.rules.specs.declared.Head.TheVariants.{Opened, Unopened}
+use Rattle.rules.specs.Delta.{Head}
+use Rattle.rules.specs.Delta.Head.{Opened, Unopened}
 use Rattle.words.specs.Tests.{either}
 use Rattle.varints.specs.Places.{next-within}
 use Rattle.varints.specs.Fields.{by_field}

@@ -7,7 +7,7 @@ use Rattle.std.proofs.Math.Numerals.{add-one}
 use native.Mathlib.Omega.{arith}
 use Rattle.std.proofs.Math.Seq.{drop-append_seam, get_or-take}
 use Rattle.rules.specs.declared.Number.TheVariants.{Read}
-use Rattle.rules.specs.declared.Block.TheVariants.{Laid}
+use Rattle.rules.specs.Delta.Block.{Laid}
 use Rattle.rules.specs.Bits.{tabulate, entry}
 use Rattle.rules.specs.Bits.Order.{low_first}
 use Rattle.rules.specs.Answer.{any_large}

@@ -3,7 +3,7 @@ use Rattle.std.specs.Prelude.{◌≡◌, ℕ, zero, suc, ◌+◌, ◌-◌, ◌*�
 use Rattle.std.proofs.Math.Path.{sym, ap, ap₂}
 use Rattle.std.proofs.Common.{◌∙◌, append_assoc, add-one, arith, length-take, length-drop, drop_of_length-le, get_or-take, ltb-true, ltb-false, le-ltb, eq-eqb}
 use Rattle.std.proofs.Math.IntN.{+ℤ_comm, -ℤ-+ℤ_cancel}
-use Rattle.rules.specs.declared.Head.TheVariants.{Opened}
+use Rattle.rules.specs.Delta.Head.{Opened}
 use Rattle.rules.specs.Bits.{tabulate}
 use Rattle.rules.specs.Shortest.{shortest}
 use Rattle.rules.specs.Varint.{reading}

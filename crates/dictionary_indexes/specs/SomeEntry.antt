@@ -6,7 +6,7 @@ use Rattle.rules.specs.Answer.{faulty, ◌then◌}
 use Rattle.rules.specs.Bits.{some_below, field, entry}
 use Rattle.rules.specs.Bits.Order.{low_first}
 use Rattle.rules.specs.Runs.{run_at, read, stream_fault, stream_entry}
-use Rattle.rules.specs.declared.Run.TheVariants.{Repeated, Packed, Refused}
+use Rattle.rules.specs.Runs.Run.{Repeated, Packed, Refused}
 use Rattle.rules.specs.Grammar.{Piece, cut_entries, Cut}
 use Rattle.words.specs.Entries.{field-window, place-within}
 use Rattle.answers.specs.Laws.{then_found, then_none}

@@ -2,24 +2,26 @@
 ghost use Rattle.std.specs.Prelude.{◌≡◌, ◌≤◌};
 ghost use Rattle.rules.specs.Bits.Order.{low_first};
 ghost use Rattle.rules.specs.Horizontal.{page_fault};
+ghost use Rattle.rules.specs.Refusals.{fault};
 
+use rules::Refusal;
 use words::entries::entry_any;
 
-// 5, 6 or 7, or 0 where the page is good.
-pub fn page_fault(page: &[u8], width: u32, n: usize) -> u32
+// Is the page as long as its entries, and are its unused bits 0.
+pub fn judge_page(page: &[u8], width: u32, n: usize) -> Result<(), Refusal>
     requires { (width ≤ 32) × (n ≤ 16384) }
-    ensures { result ≡ page_fault low_first page.now width n }
+    ensures { fault result ≡ page_fault low_first page.now width n }
 {
     let bits = n * width as usize;
     let bytes = (bits + 7) / 8;
     if page.len() < bytes {
-        return 5;
+        return Err(Refusal::InputEndsTooEarly);
     }
     if bytes < page.len() {
-        return 6;
+        return Err(Refusal::InputLeftOver);
     }
     if 0 < entry_any(page, bits, (8 * bytes - bits) as u32) {
-        return 7;
+        return Err(Refusal::UnusedBitsNot0);
     }
-    0
+    Ok(())
 }

@@ -3,6 +3,9 @@
 
 ghost use Rattle.std.specs.Prelude.{◌≡◌};
 ghost use Rattle.rules.specs.Answer.{count_fault, limit_fault};
+ghost use Rattle.rules.specs.Refusals.{fault};
+
+use rules::Refusal;
 
 // Columns of unsigned entries, whose width is an argument: horizontal and vertical pages, run streams.
 #[derive(Clone, Copy)]
@@ -19,31 +22,28 @@ impl Unsigned {
     pub fn new(width: u32, entries: usize) -> Self
         ensures { (result.width ≡ width) × (result.entries ≡ entries) }
     {
-        Self {
-            width: width,
-            entries: entries,
-        }
+        Self { width, entries }
     }
 
-    // 1 or 2, or 0 where the column keeps to the limits.
-    pub fn fault(self) -> u32
-        ensures { result ≡ limit_fault self.width self.entries }
+    // Does the column keep to the limits.
+    pub fn judge(self) -> Result<(), Refusal>
+        ensures { fault result ≡ limit_fault self.width self.entries }
     {
         if Self::MAX_WIDTH < self.width {
-            return 1;
+            return Err(Refusal::WidthAboveLimit);
         }
         if Self::MAX_ENTRIES < self.entries {
-            return 2;
+            return Err(Refusal::TooManyEntries);
         }
-        0
+        Ok(())
     }
 }
 
 // The same of a width and a count that a caller gave.
-pub fn unsigned_fault(width: u32, n: usize) -> u32
-    ensures { result ≡ limit_fault width n }
+pub fn judge_unsigned(width: u32, n: usize) -> Result<(), Refusal>
+    ensures { fault result ≡ limit_fault width n }
 {
-    Unsigned::new(width, n).fault()
+    Unsigned::new(width, n).judge()
 }
 
 // Columns of signed entries, whose widths are in the page: delta pages, dictionary columns.
@@ -60,23 +60,23 @@ impl Signed {
     pub fn new(entries: usize) -> Self
         ensures { result.entries ≡ entries }
     {
-        Self { entries: entries }
+        Self { entries }
     }
 
-    // 2, or 0 where the column keeps to the limit.
-    pub fn fault(self) -> u32
-        ensures { result ≡ count_fault self.entries }
+    // Does the column keep to the limit.
+    pub fn judge(self) -> Result<(), Refusal>
+        ensures { fault result ≡ count_fault self.entries }
     {
         if Self::MAX_ENTRIES < self.entries {
-            return 2;
+            return Err(Refusal::TooManyEntries);
         }
-        0
+        Ok(())
     }
 }
 
 // The same of a count that a caller gave.
-pub fn signed_fault(n: usize) -> u32
-    ensures { result ≡ count_fault n }
+pub fn judge_signed(n: usize) -> Result<(), Refusal>
+    ensures { fault result ≡ count_fault n }
 {
-    Signed::new(n).fault()
+    Signed::new(n).judge()
 }

@@ -2,8 +2,8 @@
 use Rattle.std.specs.Prelude.{◌≡◌, List, ◌↔◌, ℕ, drop}
 use Rattle.std.proofs.Common.{arith}
 use Rattle.rules.specs.Runs.{run_at, answer_of}
-use Rattle.rules.specs.declared.Run.{Run}
-use Rattle.rules.specs.declared.Run.TheVariants.{Repeated, Packed, Refused}
+use Rattle.rules.specs.Runs.{Run}
+use Rattle.rules.specs.Runs.Run.{Repeated, Packed, Refused}
 use Rattle.runs_read.specs.Sound.{StandsAs, one-sound}
 use Rattle.promises.specs.RunThere.{RunThere, run-told}
 

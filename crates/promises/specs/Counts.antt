@@ -7,10 +7,10 @@ use Rattle.rules.specs.Grammar.{Piece, cut_entries, Cut}
 use Rattle.rules.specs.Delta.{head_at, needed, block_deltas, after, block_at, blocks_at, read, page_fault}
 use Rattle.rules.specs.Delta.Deltas.{good}
 use Rattle.rules.specs.Delta.Page.{holding}
-use Rattle.rules.specs.declared.Head.{Head}
-use Rattle.rules.specs.declared.Head.TheVariants.{Opened, Unopened}
-use Rattle.rules.specs.declared.Block.{Block}
-use Rattle.rules.specs.declared.Block.TheVariants.{Laid, Unlaid}
+use Rattle.rules.specs.Delta.{Head}
+use Rattle.rules.specs.Delta.Head.{Opened, Unopened}
+use Rattle.rules.specs.Delta.{Block}
+use Rattle.rules.specs.Delta.Block.{Laid, Unlaid}
 use Rattle.runs_read.specs.Entries.{covered}
 use Rattle.delta_read.specs.Shapes.{Shape, shape}
 use Rattle.delta_read.specs.Heads.{head-shaped}

@@ -6,7 +6,7 @@ use Rattle.std.proofs.Math.Bool.{true, false}
 use Rattle.rules.specs.Answer.{faulty, ◌then◌, limit_fault}
 use Rattle.rules.specs.Varint.{number_at}
 use Rattle.rules.specs.Runs.{run_at, one_at}
-use Rattle.rules.specs.declared.Run.TheVariants.{Refused}
+use Rattle.rules.specs.Runs.Run.{Refused}
 use Rattle.promises.specs.WhichFaults.{run_fault, a_fault, in_order, limits, run}
 
 -- 1, 2, then 5 for a place past the page's end, then 11 if n or more are covered, then the first fault of the run

@@ -1,6 +1,6 @@
 -- What comparing one group promises: its 64 bits and the number of planes taken, by the operator and its
 -- constants; and two groups that are alike in the planes taken get the same.
-use Rattle.std.specs.Prelude.{◌≡◌, refl, Bool, ℕ, ◌^◌, ◌≤◌, ℤ, pos, take}
+use Rattle.std.specs.Prelude.{◌≡◌, refl, Bool, ℕ, ◌^◌, ◌≤◌, ℤ, pos, take, Some}
 use Rattle.std.proofs.Math.Path.{sym, ap, ap₂}
 use Rattle.std.proofs.Common.{subst, ◌∙◌, arith}
 use Rattle.std.proofs.Math.Bool.{false, not, or_self_left}
@@ -19,7 +19,6 @@ use Rattle.words.specs.Tabulated.{get_or-tabulate}
 use Rattle.compare.specs.Band.{band_of, bands, least, greatest}
 use Rattle.compare.specs.Operators.{same_row, band-known, holds-band}
 use Rattle.compare.specs.declared.bands.Band.{Band}
-use Rattle.compare.specs.declared.bands.Comparison.TheVariants.{Of}
 use Rattle.vertical_planes.specs.Alike.{band-alike}
 use Rattle.vertical_compare.specs.Lanes.{lane-fits}
 use Rattle.vertical_planes.specs.Standing.{band_compared}
@@ -56,7 +55,7 @@ module _ (group : List ℕ) (few : length group ≤ 32) where
   unfolding bands tabulate constants some_undecided
   undecided-rows i a b = rw ((no-constant i).0, (no-constant i).1, or_self_left)
 
-  module _ (op : ℕ) (a b : ℤ) (band : Band) (known : band_of op a b ≡ Of band) where
+  module _ (op : ℕ) (a b : ℤ) (band : Band) (known : band_of op a b ≡ Some band) where
     same-undecided : (i : ℕ) → some_open i (constants op a b) ≡ some_open i (band.low ∷ band.high ∷ [])
     unfolding band_of
     same-undecided i =
@@ -77,12 +76,12 @@ module _ (group : List ℕ) (few : length group ≤ 32) where
 -- ---- whatever a call was given: the group's planes, and a band
 
 pub group_compared : Every 3 compare_kinds.ps compare_kinds.r compare_reads.Learnt (λ κs g r e.
-    (op : ℕ) (a b : ℤ) → band_of op a b ≡ Of g.1.0 → length g.0.now ≤ 32
+    (op : ℕ) (a b : ℤ) → band_of op a b ≡ Some g.1.0 → length g.0.now ≤ 32
     → r ≡ compared g.0.now op a b)
 group_compared κs g r e contract op a b known few = contract ∙ by-band g.0.now few op a b g.1.0 known
 
 pub four_compared_lem : Every 6 compare_four_kinds.ps compare_four_kinds.r compare_four_reads.Learnt (λ κs g r e.
-    (op : ℕ) (a b : ℤ) → band_of op a b ≡ Of g.1.1.1.1.0
+    (op : ℕ) (a b : ℤ) → band_of op a b ≡ Some g.1.1.1.1.0
     → length g.0.now ≤ 32 → length g.1.0.now ≤ 32
     → length g.1.1.0.now ≤ 32 → length g.1.1.1.0.now ≤ 32
     → r ≡ record {
@@ -103,7 +102,7 @@ four_compared_lem κs g r e contract op a b known first second third fourth =
 -- ---- two groups that are alike in the planes taken get the same
 
 pub alike : (g h : List ℕ) → length g ≡ length h → length g ≤ 32
-    → (op : ℕ) (a b : ℤ) (band : Band) → band_of op a b ≡ Of band
+    → (op : ℕ) (a b : ℤ) (band : Band) → band_of op a b ≡ Some band
     → take (compared g op a b).taken g ≡ take (compared g op a b).taken h
     → compared h op a b ≡ compared g op a b
 alike g h size few op a b band known same =

@@ -6,8 +6,8 @@ use Rattle.rules.specs.Runs.{Stream, also, after, run_at, answer_of}
 use Rattle.rules.specs.Grammar.Piece.{same, packed}
 use Rattle.rules.specs.Runs.Stream.{good, bad}
 use Rattle.rules.specs.Grammar.{Piece, entries, OneRun}
-use Rattle.rules.specs.declared.Run.{Run}
-use Rattle.rules.specs.declared.Run.TheVariants.{Repeated, Packed, Refused}
+use Rattle.rules.specs.Runs.{Run}
+use Rattle.rules.specs.Runs.Run.{Repeated, Packed, Refused}
 use Rattle.rules.specs.declared.RunAnswer.{RunAnswer}
 use Rattle.runs_read.specs.RunAfterRun.{never}
 use Rattle.runs_read.specs.RunRead.{ran_packed}

@@ -22,12 +22,12 @@ use Rattle.rules.specs.Dictionary.{count, unordered, dictionary_fault, indexes, 
 use Rattle.rules.specs.Dictionary.{column_fault}
 use Rattle.rules.specs.declared.Number.{Number}
 use Rattle.rules.specs.declared.Number.TheVariants.{Read, Ended, Beyond}
-use Rattle.rules.specs.declared.Run.{Run}
-use Rattle.rules.specs.declared.Run.TheVariants.{Repeated, Packed, Refused}
-use Rattle.rules.specs.declared.Head.{Head}
-use Rattle.rules.specs.declared.Head.TheVariants.{Unopened}
-use Rattle.rules.specs.declared.Block.{Block}
-use Rattle.rules.specs.declared.Block.TheVariants.{Laid, Unlaid}
+use Rattle.rules.specs.Runs.{Run}
+use Rattle.rules.specs.Runs.Run.{Repeated, Packed, Refused}
+use Rattle.rules.specs.Delta.{Head}
+use Rattle.rules.specs.Delta.Head.{Unopened}
+use Rattle.rules.specs.Delta.{Block}
+use Rattle.rules.specs.Delta.Block.{Laid, Unlaid}
 use Rattle.words.specs.Tests.{either}
 use Rattle.varints.specs.Fields.{by_field}
 use Rattle.delta_read.specs.DeltasFault.{deltas_fault, fault-also as deltas-also}

@@ -1,17 +1,27 @@
 -- Delta pages of signed entries as they are read, over the width W of the kind: 32, and later 64.
-use Rattle.std.specs.Prelude.{Bool, true, false, cond, ◌&&◌, List, [], ◌∷◌, ◌++◌, ℕ, zero, suc, ◌+◌, ◌*◌, ◌-◌, ◌/◌, ◌%◌, min, ℤ, pos, ◌+ℤ◌, ltb, leb, eqb, length, take, drop, get_or}
+use Rattle.std.specs.Prelude.{Bool, true, false, cond, ◌&&◌, List, [], ◌∷◌, ◌++◌, ℕ, zero, suc, ◌+◌, ◌*◌, ◌-◌, ◌/◌, ◌%◌, min, ℤ, pos, ◌+ℤ◌, ltb, leb, eqb, length, take, drop, get_or, Result, Ok, Err}
 use Rattle.rules.specs.Bits.{ceil, tabulate, entry}
 use Rattle.rules.specs.Bits.Order.{low_first}
 use Rattle.rules.specs.Comparison.{holds}
 use Rattle.rules.specs.Answer.{◌then◌, count_fault, operator_fault, room_fault, Outcome, scanned, written}
 use Rattle.rules.specs.Varint.{number_at, reading}
 use Rattle.rules.specs.Signed.{zigzag, wrapped}
-use Rattle.rules.specs.declared.Head.{Head}
-use Rattle.rules.specs.declared.Head.TheVariants.{Opened, Unopened}
-use Rattle.rules.specs.declared.Block.{Block}
-use Rattle.rules.specs.declared.Block.TheVariants.{Laid, Unlaid}
+use Rattle.rules.specs.Refusals.{code}
+use Rattle.rules.specs.declared.Refusal.{Refusal}
+use Rattle.rules.specs.declared.Head as GivenHead
+use Rattle.rules.specs.declared.Block as GivenBlock
 
 -- ---- the header
+
+-- block size, miniblocks per block, the first value's number and the next place, or the code of what is wrong
+pub data Head : Type 0 where
+  Opened : ℕ → ℕ → ℕ → ℕ → Head
+  Unopened : ℕ → Head
+
+-- a header as it is given, or its refusal by its number
+abbrev pub head_of : Result GivenHead.Head Refusal → Head
+head_of (Ok head) = Opened head.size head.minis head.first head.next
+head_of (Err r) = Unopened (code r)
 
 -- block size a multiple of 128, from 128 to 16,384; the miniblock count at least 1, a divisor of it; the quotient a
 -- multiple of 32
@@ -31,6 +41,16 @@ head_at W n page =
     cond (shaped size minis) (cond (eqb count n) (Opened size minis first next) (Unopened 13)) (Unopened 12)))))
 
 -- ---- a block, where `left` deltas are still to come
+
+-- the smallest delta's number, the place of its width bytes and the next block's place, or the code of what is wrong
+pub data Block : Type 0 where
+  Laid : ℕ → ℕ → ℕ → Block
+  Unlaid : ℕ → Block
+
+-- a block as it is given, or its refusal by its number
+abbrev pub block_of : Result GivenBlock.Block Refusal → Block
+block_of (Ok block) = Laid block.least block.widths block.next
+block_of (Err r) = Unlaid (code r)
 
 -- how many of its miniblocks, of m entries each, hold one of them
 unfoldable pub needed : ℕ → ℕ → ℕ → ℕ

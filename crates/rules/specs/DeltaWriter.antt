@@ -1,5 +1,5 @@
 -- The writer of delta pages, over the width W of the kind: block size 128, 4 miniblocks, shortest numbers.
-use Rattle.std.specs.Prelude.{Bool, false, cond, ◌||◌, List, [], ◌∷◌, ◌++◌, map, ℕ, zero, suc, ◌+◌, ◌/◌, max, eqb, ℤ, pos, ◌-ℤ◌, length, take, drop, get_or}
+use Rattle.std.specs.Prelude.{Bool, false, cond, ◌||◌, List, [], ◌∷◌, ◌++◌, map, ℕ, zero, suc, ◌/◌, max, eqb, ℤ, pos, ◌-ℤ◌, length, take, drop, get_or}
 use Rattle.std.specs.Int.Signed.{le_z}
 use Rattle.rules.specs.Bits.{tabulate}
 use Rattle.rules.specs.Bits.Order.{low_first}

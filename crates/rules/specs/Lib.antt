@@ -2,6 +2,7 @@ pub mod Bits
 pub mod Comparison
 pub mod Bitmap
 pub mod Answer
+pub mod Refusals
 pub mod Horizontal
 pub mod Vertical
 pub mod Planes

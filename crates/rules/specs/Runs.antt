@@ -1,5 +1,5 @@
 -- Run streams, as a reader goes through them: the first fault in reading order, or the runs.
-use Rattle.std.specs.Prelude.{Bool, true, false, cond, List, [], ◌∷◌, ℕ, zero, suc, ◌+◌, ◌-◌, ◌*◌, ◌/◌, ◌%◌, ◌^◌, ℤ, pos, ltb, leb, eqb, length, take, drop, get_or}
+use Rattle.std.specs.Prelude.{Bool, true, false, cond, List, [], ◌∷◌, ℕ, zero, suc, ◌+◌, ◌-◌, ◌*◌, ◌/◌, ◌%◌, ◌^◌, ℤ, pos, ltb, leb, eqb, length, take, drop, get_or, Result, Ok, Err}
 use Rattle.rules.specs.Bits.{ceil, tabulate, number}
 use Rattle.rules.specs.Comparison.{holds}
 use Rattle.rules.specs.Answer.{◌then◌, limit_fault, operator_fault, room_fault, Outcome, scanned, written}
@@ -8,9 +8,25 @@ use Rattle.rules.specs.Grammar.{Piece, cut_entries}
 use Rattle.rules.specs.Grammar.Piece.{same, packed}
 use Rattle.rules.specs.declared.Number.{Number}
 use Rattle.rules.specs.declared.Number.TheVariants.{Read, Ended, Beyond}
-use Rattle.rules.specs.declared.Run.{Run}
-use Rattle.rules.specs.declared.Run.TheVariants.{Repeated, Packed, Refused}
+use Rattle.rules.specs.Refusals.{code}
+use Rattle.rules.specs.declared.Refusal.{Refusal}
+use Rattle.rules.specs.declared.Run as Given
+use Rattle.rules.specs.declared.Run.TheVariants as Found
 use Rattle.rules.specs.declared.RunAnswer.{RunAnswer}
+
+-- ---- one run read at a place: how many entries or groups, the value or where the groups begin, and the next place;
+-- or the code of what is wrong with it
+
+pub data Run : Type 0 where
+  Repeated : ℕ → ℕ → ℕ → Run
+  Packed : ℕ → ℕ → ℕ → Run
+  Refused : ℕ → Run
+
+-- a run as it is given, or its refusal by its number
+abbrev pub run_of : Result Given.Run Refusal → Run
+run_of (Ok (Found.Repeated count value next)) = Repeated count value next
+run_of (Ok (Found.Packed groups start next)) = Packed groups start next
+run_of (Err r) = Refused (code r)
 
 -- ---- one run, where `left` entries are not yet covered
 

@@ -3,8 +3,8 @@ use Rattle.std.specs.Prelude.{◌≡◌, refl, List, [], ◌∷◌, ℕ, ◌-◌
 use Rattle.std.proofs.Common.{arith, length-take, length-drop, pow_mono, ltb-false}
 use Rattle.rules.specs.Runs.{one_at, handed_back, one_run, answer_of, one_answer}
 use Rattle.rules.specs.Runs.Handed.{handed}
-use Rattle.rules.specs.declared.Run.{Run}
-use Rattle.rules.specs.declared.Run.TheVariants.{Repeated, Packed, Refused}
+use Rattle.rules.specs.Runs.{Run}
+use Rattle.rules.specs.Runs.Run.{Repeated, Packed, Refused}
 use Rattle.rules.specs.declared.RunAnswer.{RunAnswer}
 use Rattle.varints.specs.Places.{next-within}
 use Rattle.words.specs.Tests.{either}

@@ -1,8 +1,8 @@
 -- The faults of a run's body, as one code.
 use Rattle.std.specs.Prelude.{◌≡◌, refl, Bool, true, false, cond, ℕ}
 use Rattle.std.proofs.Common.{ap, arith}
-use Rattle.rules.specs.declared.Run.{Run}
-use Rattle.rules.specs.declared.Run.TheVariants.{Refused}
+use Rattle.rules.specs.Runs.{Run}
+use Rattle.rules.specs.Runs.Run.{Refused}
 
 -- past n, cut short, and the value not small, in this order; of a packed run the last is never asked
 abbrev pub body_fault : Bool → Bool → Bool → ℕ

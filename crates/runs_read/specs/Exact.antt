@@ -4,7 +4,7 @@ use Rattle.std.proofs.Common.{ap, arith}
 use Rattle.rules.specs.Runs.{Stream, also, at_end, after, read_at, read, stream_fault}
 use Rattle.rules.specs.Runs.Stream.{good, bad}
 use Rattle.rules.specs.Grammar.{Piece, Cut}
-use Rattle.rules.specs.declared.Run.{Run}
+use Rattle.rules.specs.Runs.{Run}
 use Rattle.runs_read.specs.RunRead.{Shown, refuses, repeats, packs, shown}
 use Rattle.runs_read.specs.Complete.{complete}
 use Rattle.runs_read.specs.Sound.{sound}

@@ -9,8 +9,8 @@ use Rattle.rules.specs.Varint.{moved, number_at, number_fault}
 use Rattle.rules.specs.Runs.{headed, run_at}
 use Rattle.rules.specs.declared.Number.{Number}
 use Rattle.rules.specs.declared.Number.TheVariants.{Read, Ended, Beyond}
-use Rattle.rules.specs.declared.Run.{Run}
-use Rattle.rules.specs.declared.Run.TheVariants.{Refused}
+use Rattle.rules.specs.Runs.{Run}
+use Rattle.rules.specs.Runs.Run.{Refused}
 use Rattle.rules.specs.contracts.Number.{the_type}
 use Rattle.varints.specs.ByteByByte.{ended, final, one_byte}
 

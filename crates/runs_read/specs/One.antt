@@ -6,8 +6,8 @@ use Rattle.std.proofs.Common.{arith}
 use borrow.Author.Tests.{lt-ltb, le-ltb, le-leb, lt-leb, ltb-false, leb-false}
 use Rattle.rules.specs.Answer.{faulty, ◌then◌, limit_fault}
 use Rattle.rules.specs.Runs.{run_at, one_at}
-use Rattle.rules.specs.declared.Run.{Run}
-use Rattle.rules.specs.declared.Run.TheVariants.{Packed, Refused}
+use Rattle.rules.specs.Runs.{Run}
+use Rattle.rules.specs.Runs.Run.{Packed, Refused}
 use Rattle.answers.specs.Laws.{within-limits}
 use Rattle.runs_read.specs.RunRead.{ran_packed}
 

@@ -8,8 +8,8 @@ use Rattle.rules.specs.Varint.{number_at}
 use Rattle.rules.specs.Runs.{repeated_at, packed_at, headed, run_at}
 use Rattle.rules.specs.declared.Number.{Number}
 use Rattle.rules.specs.declared.Number.TheVariants.{Read, Ended, Beyond}
-use Rattle.rules.specs.declared.Run.{Run}
-use Rattle.rules.specs.declared.Run.TheVariants.{Repeated, Packed, Refused}
+use Rattle.rules.specs.Runs.{Run}
+use Rattle.rules.specs.Runs.Run.{Repeated, Packed, Refused}
 use Rattle.varints.specs.Places.{next-within}
 use Rattle.words.specs.Tests.{either}
 

@@ -14,8 +14,8 @@ use Rattle.rules.specs.Runs.Stream.{good, bad}
 use Rattle.rules.specs.Grammar.{Piece, entries, Header, OneRun, Cut}
 use Rattle.rules.specs.Grammar.OneRun.{repeats as repeats-run, packs as packs-run}
 use Rattle.rules.specs.Grammar.Cut.{done, next}
-use Rattle.rules.specs.declared.Run.{Run}
-use Rattle.rules.specs.declared.Run.TheVariants.{Repeated, Packed, Refused}
+use Rattle.rules.specs.Runs.{Run}
+use Rattle.rules.specs.Runs.Run.{Repeated, Packed, Refused}
 use Rattle.rules.specs.declared.Number.TheVariants.{Read}
 use Rattle.varints.specs.Places.{found_at, next-within}
 use Rattle.runs_read.specs.RunAfterRun.{never}

@@ -7,8 +7,8 @@ use Prim.{Unit, tt}
 use Rattle.rules.specs.Runs.{Stream, run_at, also, at_end, after, read_at, read, stream_fault}
 use Rattle.rules.specs.Runs.Stream.{good, bad}
 use Rattle.rules.specs.Grammar.{Piece, entries, Cut}
-use Rattle.rules.specs.declared.Run.{Run}
-use Rattle.rules.specs.declared.Run.TheVariants.{Repeated, Packed, Refused}
+use Rattle.rules.specs.Runs.{Run}
+use Rattle.rules.specs.Runs.Run.{Repeated, Packed, Refused}
 use Rattle.runs_read.specs.Exact.{exact}
 use Rattle.runs_read.specs.Walks.{Work, Comes, walk, steps, on_run, walk-good}
 

@@ -5,8 +5,8 @@ use Rattle.rules.specs.Grammar.{Piece}
 use Rattle.rules.specs.Runs.{Stream, run_at, also, at_end, after, read_at}
 use Rattle.rules.specs.Grammar.Piece.{same, packed}
 use Rattle.rules.specs.Runs.Stream.{good, bad}
-use Rattle.rules.specs.declared.Run.{Run}
-use Rattle.rules.specs.declared.Run.TheVariants.{Repeated, Packed, Refused}
+use Rattle.rules.specs.Runs.{Run}
+use Rattle.rules.specs.Runs.Run.{Repeated, Packed, Refused}
 use Rattle.runs_read.specs.RunAfterRun.{never}
 use Rattle.runs_read.specs.RunRead.{ran_repeated, ran_packed}
 

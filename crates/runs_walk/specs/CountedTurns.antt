@@ -4,7 +4,7 @@ use Rattle.std.proofs.Common.{sym, ap, subst₂, ◌∙◌, arith}
 use Rattle.rules.specs.Bits.{entry}
 use Rattle.rules.specs.Bits.Order.{low_first}
 use Rattle.rules.specs.Runs.{run_at}
-use Rattle.rules.specs.declared.Run.TheVariants.{Repeated, Packed, Refused}
+use Rattle.rules.specs.Runs.Run.{Repeated, Packed, Refused}
 use Rattle.runs_read.specs.Walks.{Comes}
 use Rattle.runs_read.specs.Walks as Walks
 use Rattle.runs_read.specs.TwoPasses.{writing, pass, pass-comes}

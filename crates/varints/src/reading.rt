@@ -1,8 +1,9 @@
 // A variable-length number at a place of a page.
-ghost use Rattle.std.specs.Prelude.{◌≡◌};
+ghost use Rattle.std.specs.Prelude.{◌≡◌, ℕ};
+ghost use Rattle.rules.specs.Refusals.{code};
 ghost use Rattle.rules.specs.Varint.{number_at, number_fault};
 
-use rules::Number;
+use rules::{Number, Refusal};
 
 // The number of 32 bits at a place: five bytes at most, the fifth at most 0F.
 pub fn number_at(page: &[u8], at: usize) -> Number
@@ -11,8 +12,7 @@ pub fn number_at(page: &[u8], at: usize) -> Number
     let mut i = at;
     let mut sum: u64 = 0;
     let mut scale: u64 = 1;
-    let mut left: u32 = 4;
-    while 0 < left {
+    for passed in 0..4usize {
         if page.len() <= i {
             return Number::Ended;
         }
@@ -23,7 +23,6 @@ pub fn number_at(page: &[u8], at: usize) -> Number
         sum += scale * (b % 128);
         scale *= 128;
         i += 1;
-        left -= 1;
     }
     if page.len() <= i {
         return Number::Ended;
@@ -35,13 +34,13 @@ pub fn number_at(page: &[u8], at: usize) -> Number
     Number::Read(sum + scale * fifth, i + 1)
 }
 
-// 5 or 9; 0 for a number that was read.
-pub fn fault_of(number: Number) -> u32
-    ensures { result ≡ number_fault number }
+// Why a number was not read: the page ends in it, or it is beyond its bits.
+pub fn refusal_of(number: Number) -> Refusal
+    ensures { ((value next : ℕ) → number ≡ Number.Read value next → ⊥)
+        → code result ≡ number_fault number }
 {
     match number {
-        Number::Read(_, _) => 0,
-        Number::Ended => 5,
-        Number::Beyond => 9,
+        Number::Beyond => Refusal::NumberBeyondItsBits,
+        Number::Read(_, _) | Number::Ended => Refusal::InputEndsTooEarly,
     }
 }

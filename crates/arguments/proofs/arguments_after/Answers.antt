@@ -1,32 +1,27 @@
 -- `arguments::arguments_after` meets its contract: the limits first, then the operator.
-use mathlib.Core.Path.{◌≡◌, sym, ap, ap₂, ◌∙◌}
+use mathlib.Core.Path.{ap}
 use mir.Syntax.{w64}
 use mir.ValLaws.{to_z-of_z}
-use Rattle.compare.specs.Band.{band_of}
+use Rattle.answers.specs.Laws.{code_some, passed_up}
 use Rattle.arguments.specs.Arguments.{judged, arguments_of, judged-found}
 use Rattle.arguments.proofs.arguments_after.Goals as goal
-use Rattle.arguments.proofs.arguments_after.Goals.{After-band_of-comparison}
+use Rattle.arguments.proofs.arguments_after.Goals.{After-band_of}
 
-pub returns-then-limits-ne0 : goal.returns-then-limits-ne0
+-- a judgement that refuses is passed up
+pub returns-in_err-limits : goal.returns-in_err-limits
 unfolding arguments_of
-returns-then-limits-ne0 c =
-    let a = c.args in
-    judged-found _ (band_of a.op a.a a.b) c.if-limits-ne0.true
-
--- the constants come through the call as they are, and the limits are kept
-judgement : (c : After-band_of-comparison)
-    → let a = c.args in
-    judged 0 c.band_of-comparison.result ≡ arguments_of a.limits a.op a.a a.b
-unfolding arguments_of
-judgement c =
-    let chosen =
-    rw (to_z-of_z w64 c.args.a c.ranges.a, to_z-of_z w64 c.args.b c.ranges.b) at c.band_of-comparison.ensures in
-    ap₂ judged (sym c.if-limits-ne0.false) chosen
+returns-in_err-limits c =
+    let up = passed_up c.from_residual.result c.in_err-limits.field-0.0 c.from_residual.ensures in
+    rw (up, c.in_err-limits.was) (judged-found _ _ (code_some c.in_err-limits.field-0.0))
 
 pub returns-in_default : goal.returns-in_default
-unfolding judged
-returns-in_default c = ap (judged 0) (sym c.in_default.is) ∙ judgement c.before
+unfolding judged arguments_of
+returns-in_default c =
+    let none = rw (to_z-of_z w64 c.args.a c.ranges.a, to_z-of_z w64 c.args.b c.ranges.b) at c.in_default.ensures in
+    rw (c.in_ok-limits.was) (ap (judged 0) none)
 
 pub returns : goal.returns
-unfolding judged
-returns c = ap (judged 0) (sym c.in-Of.is) ∙ judgement c.before
+unfolding judged arguments_of
+returns c =
+    let some = rw (to_z-of_z w64 c.args.a c.ranges.a, to_z-of_z w64 c.args.b c.ranges.b) at c.in-Some.ensures in
+    rw (c.in_ok-limits.was) (ap (judged 0) some)

@@ -9,5 +9,5 @@ returns c =
     rw (
       to_z-of_z w64 c.args.a c.ranges.a,
       to_z-of_z w64 c.args.b c.ranges.b,
-      c.signed_fault.ensures,
+      c.judge_signed.ensures,
     ) at c.arguments_after.ensures

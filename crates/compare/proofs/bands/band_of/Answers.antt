@@ -1,11 +1,11 @@
 -- `compare::bands::band_of` meets its contract: arm k is row k of the table, and the numbers above the arms are
 -- past its end.
+use Rattle.std.specs.Prelude.{Some, None}
 use Rattle.std.proofs.Common.{◌≡◌, ℕ, ℤ, ◌≤◌, map, sym, ◌∙◌, arith, w64, to_z, of_z}
 use lib.ListN.{get_or-eq_default}
 use mir.Val.{SFits}
 use mir.ValLaws.{to_z-of_z}
 use Rattle.compare.specs.Band.{bands, band_of}
-use Rattle.compare.specs.declared.bands.Comparison.TheVariants.{Of, Unknown}
 use Rattle.compare.proofs.bands.band_of.Goals as goal
 
 -- the constants are read back from their bits
@@ -65,4 +65,4 @@ pub returns-in-8-to-4294967295 : goal.returns-in-8-to-4294967295
 unfolding band_of bands
 returns-in-8-to-4294967295 c =
     let above : 8 ≤ c.args.op = omega arith in
-    sym (get_or-eq_default (map Of (bands c.args.a c.args.b)) Unknown {n = c.args.op} above)
+    sym (get_or-eq_default (map Some (bands c.args.a c.args.b)) None {n = c.args.op} above)

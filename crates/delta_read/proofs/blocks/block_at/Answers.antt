@@ -15,8 +15,8 @@ use Rattle.rules.specs.Varint.{number_at}
 use Rattle.rules.specs.Delta.{width_fault, sum, body_bytes, laid_at, block_at}
 use Rattle.rules.specs.declared.Number.{Number}
 use Rattle.rules.specs.declared.Number.TheVariants.{Read}
-use Rattle.rules.specs.declared.Block.{Block}
-use Rattle.rules.specs.declared.Block.TheVariants.{Laid, Unlaid}
+use Rattle.rules.specs.Delta.{Block}
+use Rattle.rules.specs.Delta.Block.{Laid, Unlaid}
 use Rattle.varints.specs.Places.{next-within}
 use Rattle.varints.specs.Fields.{by_read}
 use Rattle.delta_read.specs.WidthBytes.{widths-there, sum_le}

@@ -5,8 +5,8 @@ use Rattle.rules.specs.Varint.{number_at, reading}
 use Rattle.rules.specs.Delta.{shaped, head_at}
 use Rattle.rules.specs.declared.Number.{Number}
 use Rattle.rules.specs.declared.Number.TheVariants.{Read}
-use Rattle.rules.specs.declared.Head.{Head}
-use Rattle.rules.specs.declared.Head.TheVariants.{Opened, Unopened}
+use Rattle.rules.specs.Delta.{Head}
+use Rattle.rules.specs.Delta.Head.{Opened, Unopened}
 use Rattle.varints.specs.Fields.{by_read}
 use Rattle.delta_read.proofs.NotRead.{not_read}
 use Rattle.delta_read.proofs.heads.head_at.Goals as goal

@@ -5,7 +5,7 @@ use Prim.Native.Nat.{ℕ, ◌*◌, ◌≤◌}
 use lib.ListN.{length}
 use native.Mathlib.Omega.{arith}
 use Rattle.rules.specs.Runs.{one_at, handed_back, one_run}
-use Rattle.rules.specs.declared.Run.TheVariants.{Packed}
+use Rattle.rules.specs.Runs.Run.{Packed}
 use Rattle.runs_read.specs.One.{one-packed}
 use Rattle.runs_read.proofs.handing.one_run.Goals as goal
 

@@ -3,7 +3,7 @@
 use mathlib.Core.Path.{◌≡◌, sym, ap, ◌∙◌}
 use native.Mathlib.Omega.{arith}
 use Rattle.rules.specs.Answer.{limit_fault}
-use Rattle.rules.specs.declared.Run.TheVariants.{Refused}
+use Rattle.rules.specs.Runs.Run.{Refused}
 use Rattle.answers.specs.Laws.{within-limits}
 use Rattle.runs_read.specs.One.{one_limited, one-past, one-covered, one-read}
 use Rattle.runs_read.proofs.one.one_at.Goals as goal

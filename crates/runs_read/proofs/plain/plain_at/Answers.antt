@@ -9,8 +9,8 @@ use borrow.Author.Rules.{rules}
 use borrow.Author.Tests.{eq-eqb, ne_eqb}
 use Rattle.rules.specs.Runs.{headed}
 use Rattle.rules.specs.declared.Number.TheVariants.{Read}
-use Rattle.rules.specs.declared.Run.{Run}
-use Rattle.rules.specs.declared.Run.TheVariants.{Refused}
+use Rattle.rules.specs.Runs.{Run}
+use Rattle.rules.specs.Runs.Run.{Refused}
 use Rattle.varints.specs.Places.{next-within}
 use Rattle.words.specs.Puts.{part_rest}
 use Rattle.runs_read.specs.Headers.{not_read, plain_header, unread, whole-header}

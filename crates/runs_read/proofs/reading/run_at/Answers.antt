@@ -8,8 +8,8 @@ use borrow.Author.Tests.{eq-eqb, ne_eqb}
 use Rattle.rules.specs.Runs.{headed, run_at}
 use Rattle.rules.specs.Varint.{number_at}
 use Rattle.rules.specs.declared.Number.TheVariants.{Read}
-use Rattle.rules.specs.declared.Run.{Run}
-use Rattle.rules.specs.declared.Run.TheVariants.{Refused}
+use Rattle.rules.specs.Runs.{Run}
+use Rattle.rules.specs.Runs.Run.{Refused}
 use Rattle.varints.specs.Places.{next-within}
 use Rattle.words.specs.Puts.{part_rest}
 use Rattle.runs_read.specs.Headers.{not_read, unread}

@@ -1,4 +1,4 @@
--- `horizontal_scan::judging::page_fault` meets its contract: each test is one of the listed faults.
+-- `horizontal_scan::judging::judge_page` meets its contract: each test is one of the listed faults.
 use Rattle.std.proofs.Common.{length}
 use Prim.Native.Nat.{◌<◌, ◌≤◌}
 use native.Mathlib.Omega.{arith}
@@ -7,7 +7,7 @@ use Rattle.rules.specs.Bits.Order.{low_first}
 use Rattle.rules.specs.Answer.{◌then◌}
 use Rattle.rules.specs.Horizontal.{page_bytes, page_fault, unused}
 use Rattle.horizontal_scan.specs.GoodPage.{bits_le}
-use Rattle.horizontal_scan.proofs.judging.page_fault.Goals as goal
+use Rattle.horizontal_scan.proofs.judging.judge_page.Goals as goal
 
 pub overflow_mul-bits : goal.overflow_mul-bits
 overflow_mul-bits c = let a = c.args in omega (arith, bits_le a.width a.n (omega arith) (omega arith))

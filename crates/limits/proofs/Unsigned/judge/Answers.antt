@@ -1,8 +1,8 @@
--- `limits::Unsigned::fault` meets its contract: each test is one of the listed faults.
+-- `limits::Unsigned::judge` meets its contract: each test is one of the listed faults.
 use native.Mathlib.Omega.{arith}
 use borrow.Author.Tests.{lt-ltb, le-ltb}
 use Rattle.rules.specs.Answer.{limit_fault, ◌then◌}
-use Rattle.limits.proofs.Unsigned.fault.Goals as goal
+use Rattle.limits.proofs.Unsigned.judge.Goals as goal
 
 pub returns-then-self-gt-MAX_WIDTH : goal.returns-then-self-gt-MAX_WIDTH
 unfolding limit_fault ◌then◌

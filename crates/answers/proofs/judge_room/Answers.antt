@@ -1,7 +1,7 @@
--- `answers::room_fault` meets its contract: its test is the listed fault.
+-- `answers::judge_room` meets its contract: its test is the listed fault.
 use borrow.Author.Tests.{lt-ltb, le-ltb}
 use Rattle.rules.specs.Answer.{room_fault}
-use Rattle.answers.proofs.room_fault.Goals as goal
+use Rattle.answers.proofs.judge_room.Goals as goal
 
 pub returns-then-places-need : goal.returns-then-places-need
 unfolding room_fault

@@ -1,7 +1,0 @@
--- `limits::signed_fault` meets its contract: the kind is made of the number.
-use mathlib.Core.Path.{ap, ◌∙◌}
-use Rattle.rules.specs.Answer.{count_fault}
-use Rattle.limits.proofs.signed_fault.Goals as goal
-
-pub returns : goal.returns
-returns c = c.fault.ensures ∙ ap count_fault c.new.ensures

@@ -1,7 +1,0 @@
--- `limits::unsigned_fault` meets its contract: the kind is made of the two numbers.
-use mathlib.Core.Path.{ap₂, ◌∙◌}
-use Rattle.rules.specs.Answer.{limit_fault}
-use Rattle.limits.proofs.unsigned_fault.Goals as goal
-
-pub returns : goal.returns
-returns c = c.fault.ensures ∙ ap₂ limit_fault c.new.ensures.0 c.new.ensures.1
