@@ -6,23 +6,18 @@ ghost use Rattle.rules.specs.Bits.Order.{low_first};
 ghost use Rattle.rules.specs.Answer.{faulty, ◌then◌};
 ghost use Rattle.rules.specs.Runs.{read, stream_fault, stream_entry};
 
-use crate::finding::either;
 use crate::windows::some_groups;
 use bitmaps::counted;
 use compare::ranges::range_to;
 use packed_select::select;
 use rules::Run;
 use runs_read::plain::run_at;
-use words::counts::min;
 
 // 15, where one was found.
 fn large_fault(large: bool) -> u32
     ensures { result ≡ faulty large 15 }
 {
-    if large {
-        return 15;
-    }
-    0
+    if large { 15 } else { 0 }
 }
 
 // Do windows of eight bytes within the page's last `rest` bytes, which begin with m indexes, hold all of
@@ -31,16 +26,7 @@ fn in_windows(rest: usize, w: usize, m: usize) -> bool
     requires { m ≤ 16384 }
     ensures { result ≡ (ltb 0 w && leb w 16 && eqb (m % 8) 0 && leb (m / 8 * w + 8) rest) }
 {
-    if w == 0 {
-        return false;
-    }
-    if 16 < w {
-        return false;
-    }
-    if m % 8 != 0 {
-        return false;
-    }
-    m / 8 * w + 8 <= rest
+    0 < w && w <= 16 && m % 8 == 0 && m / 8 * w + 8 <= rest
 }
 
 // Is one of the first m indexes too large, of a packed run whose body begins at byte `start`. None is
@@ -58,7 +44,7 @@ fn some_counted(
     ensures { result
         ≡ some_below m (λ k. leb limit (field low_first page.now (8 * start + k * w) w)) }
 {
-    let end = min(start + (m * w + 7) / 8 + 8, page.len());
+    let end = (start + (m * w + 7) / 8 + 8).min(page.len());
     select(
         &page[start..end],
         w,
@@ -84,9 +70,10 @@ fn some_packed(
         ≡ some_below m (λ k. leb limit (field low_first page.now (8 * start + k * w) w)) }
 {
     if in_windows(page.len() - start, w, m) {
-        return some_groups(page, start, w, m / 8, limit);
+        some_groups(page, start, w, m / 8, limit)
+    } else {
+        some_counted(page, start, w, m, limit, scratch)
     }
-    some_counted(page, start, w, m, limit, scratch)
 }
 
 // The stream's first fault in reading order, and 15 for an index that is too large only where it has none.
@@ -106,7 +93,7 @@ pub fn runs_fault(page: &[u8], w: usize, n: usize, limit: usize, scratch: &mut [
         let run = run_at(page, at, w, n - i);
         match run {
             Run::Repeated { count, value, next } => {
-                large = either(large, limit <= value as usize);
+                large |= limit <= value as usize;
                 i += count;
                 at = next;
             }
@@ -115,8 +102,7 @@ pub fn runs_fault(page: &[u8], w: usize, n: usize, limit: usize, scratch: &mut [
                 start,
                 next,
             } => {
-                let here = some_packed(page, start, w, min(8 * groups, n - i), limit, scratch);
-                large = either(large, here);
+                large |= some_packed(page, start, w, (8 * groups).min(n - i), limit, scratch);
                 i += 8 * groups;
                 at = next;
             }

@@ -3,7 +3,6 @@
 // bitmap (`large`); where the width cannot spell one, none is looked for.
 #![tactic(auto)]
 
-pub mod finding;
 pub mod index_page;
 mod large;
 mod windows;

@@ -58,12 +58,8 @@ fn some_in(
         (λ k. leb limit (field low_first page.now (8 * start + k * w) w)) }
 {
     let mut large: u64 = 0;
-    let mut at = start;
-    let mut g: usize = 0;
-    while g < groups {
-        large = large | group_sums(page, at, n, ones, w, limit);
-        at += w;
-        g += 1;
+    for g in 0..groups {
+        large |= group_sums(page, start + g * w, n, ones, w, limit);
     }
     0 < large & (pow(w) * ones)
 }
@@ -77,7 +73,8 @@ pub fn some_groups(page: &[u8], start: usize, w: usize, groups: usize, limit: us
         (λ k. leb limit (field low_first page.now (8 * start + k * w) w)) }
 {
     if w <= 8 {
-        return some_in(page, start, 4, ones_four(2 * w), w, groups, limit);
+        some_in(page, start, 4, ones_four(2 * w), w, groups, limit)
+    } else {
+        some_in(page, start, 2, ones_two(2 * w), w, groups, limit)
     }
-    some_in(page, start, 2, ones_two(2 * w), w, groups, limit)
 }

@@ -3,19 +3,15 @@ ghost use Rattle.std.specs.Prelude.{◌≡◌, ◌≤◌};
 ghost use Rattle.rules.specs.Dictionary as Dictionary;
 
 use crate::values::value_at;
-use dictionary_indexes::finding::either;
 use dictionary_indexes::index_page::page_fault;
 
 // Is some value not above the one before it.
 fn unordered(dict: &[u8]) -> bool
     ensures { result ≡ Dictionary.unordered dict.now }
 {
-    let count = dict.len() / 4;
     let mut found = false;
-    let mut k: usize = 0;
-    while k + 1 < count {
-        found = either(found, value_at(dict, k + 1) <= value_at(dict, k));
-        k += 1;
+    for k in 1..dict.len() / 4 {
+        found |= value_at(dict, k) <= value_at(dict, k - 1);
     }
     found
 }

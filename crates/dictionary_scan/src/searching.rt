@@ -11,10 +11,8 @@ use compare::ranges::{Range, range_to};
 fn is_before(x: i32, z: i64, equal: bool) -> bool
     ensures { result ≡ precedes equal z x }
 {
-    if equal {
-        return x as i64 <= z;
-    }
-    (x as i64) < z
+    let x = i64::from(x);
+    if equal { x <= z } else { x < z }
 }
 
 // How many values are below z, or where `equal` counts too at most z: they ascend, so half of those left

@@ -20,7 +20,8 @@ pub fn value_any(dict: &[u8], k: u32) -> i32
 {
     let i = k as usize;
     if i < dict.len() / 4 {
-        return value_at(dict, i);
+        value_at(dict, i)
+    } else {
+        0
     }
-    0
 }

@@ -57,12 +57,11 @@ pub part_word : (body : List ℕ) (a n w k : ℕ) (test : ℕ → Bool) → k * 
 part_word body a n w k test h =
     word-ext k (λ i l. ap test (field-window body a n (i * w) w (omega (arith, place-within w i k l))))
 
--- the entries behind g groups of eight, whose bytes end at `at`
-pub group_word : (body : List ℕ) (g w at k : ℕ) (test : ℕ → Bool) → at ≡ g * w
-    → word k (λ i. test (field low_first body (8 * at + i * w) w))
-    ≡ word k (λ i. test (entry low_first body w (8 * g + i)))
-group_word body g w at k test e =
-    let places : (i : ℕ) → 8 * at + i * w ≡ (8 * g + i) * w = λ i. rw (e, add-mul, mul_assoc) in
+-- the entries behind n others, which end with byte `at`
+pub part_words : (body : List ℕ) (n w at k : ℕ) (test : ℕ → Bool) → 8 * at ≡ n * w
+    → word k (λ i. test (field low_first body (8 * at + i * w) w)) ≡ word k (λ i. test (entry low_first body w (n + i)))
+part_words body n w at k test e =
+    let places : (i : ℕ) → 8 * at + i * w ≡ (n + i) * w = λ i. rw (e, add-mul) in
     word-ext k (λ i l. ap (λ (b : ℕ). test (field low_first body b w)) (places i))
 
 -- g groups of eight entries are g × w bytes, and the other entries lie in the bytes behind them

@@ -1,11 +1,12 @@
 -- Bits put from the first bit of a byte on are bytes put.
-use Rattle.std.specs.Prelude.{◌≡◌, Bool, List, [], ◌∷◌, ℕ, ◌+◌, ◌*◌, ◌/◌, ◌%◌, ◌^◌, ◌<◌, length, drop, get_or, set}
-use Rattle.std.proofs.Common.{sym, ap, ◌∙◌, mod-eq_of_lt, arith}
+use Rattle.std.specs.Prelude.{◌≡◌, refl, Bool, List, ◌++◌, ℕ, zero, suc, ◌+◌, ◌*◌, ◌/◌, ◌%◌, ◌^◌, ◌≤◌, ◌<◌, length, take, drop, get_or, replicate}
+use Rattle.std.proofs.Common.{sym, ap, ◌∙◌, append_assoc, arith, length-drop, drop-drop}
+use Rattle.std.proofs.lemmas.List.{length-take-le}
 use Rattle.rules.specs.Bits.{ceil, word, bytes, put}
-use Rattle.words.specs.Bits.{word_lt}
-use Rattle.words.specs.Puts.{put-none, put_part, set-put}
+use Rattle.words.specs.Bits.{word_lt, word_add}
+use Rattle.words.specs.Bytes.{length-bytes}
+use Rattle.words.specs.Puts.{put_part}
 use Rattle.words.specs.Appended.{appended}
-use Rattle.runs_mark.specs.SeveralGoes.{words_twice}
 
 pub appended-whole : (l : List ℕ) (a x m : ℕ) → appended l (8 * a) x m ≡ put l a (bytes (ceil m 8) x)
 unfolding appended
@@ -16,22 +17,32 @@ appended-whole l a x m =
     let value : x * 2 ^ 0 + get_or (drop a l) 0 0 % 2 ^ 0 ≡ x = omega arith in
     rw (byte, place, size, value) (put_part l (bytes (ceil m 8) x) a)
 
-pub whole-none : (l : List ℕ) (a : ℕ) → l ≡ appended l (8 * a) 0 0
-unfolding bytes
-whole-none l a = put-none l a ∙ sym (appended-whole l a 0 0)
+-- k entries of one kind, eight in a byte, are bytes that are all the same
+bytes-same : (k : ℕ) (t : Bool) → bytes k (word (8 * k) (λ _. t)) ≡ replicate k (word 8 (λ _. t))
+unfolding bytes word
+bytes-same zero t = refl
+bytes-same (suc k) t =
+    let x : ℕ = word 8 (λ _. t) in
+    let y : ℕ = word (8 * k) (λ _. t) in
+    let size : 8 * suc k ≡ 8 + 8 * k = omega arith in
+    let both : word (8 * suc k) (λ _. t) ≡ x + y * 256 =
+    ap (λ (m : ℕ). word m (λ _. t)) size ∙ word_add 8 (8 * k) (λ _. t) in
+    let small : x < 256 = word_lt 8 (λ _. t) in
+    let low : (x + y * 256) % 256 ≡ x = omega arith in
+    let high : (x + y * 256) / 256 ≡ y = omega arith in
+    rw (both, low, high, bytes-same k t)
 
--- a byte stored is eight entries put
-byte_stored : (l : List ℕ) (a : ℕ) (f : ℕ → Bool) → a < length l
-    → set l a (word 8 f) ≡ appended l (8 * a) (word 8 f) 8
-unfolding bytes
-byte_stored l a f h =
-    set-put l a (word 8 f) h ∙ ap (λ (x : ℕ). put l a (x ∷ [])) (sym (mod-eq_of_lt (word_lt 8 f)))
-    ∙ sym (appended-whole l a (word 8 f) 8)
-
--- one byte more behind i bytes
-pub next-stored : (l b : List ℕ) (a i : ℕ) (f : ℕ → Bool) → a + i < length b → length b ≡ length l
-    → b ≡ appended l (8 * a) (word (8 * i) f) (8 * i)
-    → set b (a + i) (word 8 (λ j. f (8 * i + j))) ≡ appended l (8 * a) (word (8 * (i + 1)) f) (8 * (i + 1))
-next-stored l b a i f h size e =
-    words_twice l b _ (8 * a) (8 * i) 8 (8 * (a + i)) (8 * (i + 1)) f (omega arith) (omega arith) (omega arith) e
-    (byte_stored b (a + i) (λ j. f (8 * i + j)) h)
+-- k bytes filled from byte a on are eight times as many entries put
+pub filled-whole : (l ys : List ℕ) (a n k byte : ℕ) (t : Bool) → n ≡ k → a + k ≤ length l → byte ≡ word 8 (λ _. t)
+    → ys ≡ replicate (length (take n (drop a l))) byte
+    → take a l ++ (ys ++ drop n (drop a l)) ≡ appended l (8 * a) (word (8 * k) (λ _. t)) (8 * k)
+unfolding put
+filled-whole l ys a n k byte t all room same e =
+    let x : ℕ = word (8 * k) (λ _. t) in
+    let size : ceil (8 * k) 8 ≡ k = omega arith in
+    let few : n ≤ length (drop a l) = omega (arith, length-drop a l) in
+    let many : length (take n (drop a l)) ≡ k = length-take-le n (drop a l) few ∙ all in
+    let filled : ys ≡ bytes k x = rw (many, same) at e ∙ sym (bytes-same k t) in
+    let rest : drop n (drop a l) ≡ drop (a + length (bytes k x)) l =
+    drop-drop n a l ∙ ap (λ (i : ℕ). drop i l) (omega (arith, length-bytes k x)) in
+    rw (appended-whole, size, filled, rest) (sym (append_assoc (take a l) (bytes k x) _))

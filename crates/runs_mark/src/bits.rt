@@ -21,10 +21,10 @@ pub fn append_bits(bits: &[u8], k: usize, bitmap: &mut [u8], p: usize)
     ensures { bitmap.new
         ≡ appended bitmap.old p (number bits.now) k }
 {
-    let mut i: usize = 0;
-    while 8 * i + 56 < k {
-        append_at(bitmap, p + 8 * i, bits_at(bits, i), 56);
-        i += 7;
+    let pieces = (k - 1) / 56;
+    for piece in 0..pieces {
+        append_at(bitmap, p + 56 * piece, bits_at(bits, 7 * piece), 56);
     }
-    append_at(bitmap, p + 8 * i, bits_at(bits, i), (k - 8 * i) as u32);
+    let last = bits_at(bits, 7 * pieces);
+    append_at(bitmap, p + 56 * pieces, last, (k - 56 * pieces) as u32);
 }

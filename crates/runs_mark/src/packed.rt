@@ -54,14 +54,14 @@ fn mark_inside(body: &[u8], w: usize, m: usize, range: Range, bitmap: &mut [u8],
         ≡ appended bitmap.old p
         (word m (λ k. ranged range (entry low_first body.now w k))) m }
 {
-    let mut g: usize = 0;
-    let mut at: usize = 0;
-    while 8 * g + 448 < m {
-        mark_between(body, at, at + 56 * w, w, 448, range, bitmap, p + 8 * g);
-        at += 56 * w;
-        g += 56;
+    let parts = (m - 1) / 448;
+    for part in 0..parts {
+        let at = 56 * w * part;
+        mark_between(body, at, at + 56 * w, w, 448, range, bitmap, p + 448 * part);
     }
-    mark_between(body, at, body.len(), w, m - 8 * g, range, bitmap, p + 8 * g);
+    let at = 56 * w * parts;
+    let done = 448 * parts;
+    mark_between(body, at, body.len(), w, m - done, range, bitmap, p + done);
 }
 
 // m packed entries, of which the range selects some, from bit p on. Up to 8 bytes may follow them in the
@@ -77,7 +77,7 @@ pub fn mark_packed(body: &[u8], w: usize, m: usize, range: Range, bitmap: &mut [
     if p % 8 == 0 {
         let from = p / 8;
         select(body, w, m, range, &mut bitmap[from..]);
-        return;
+    } else {
+        mark_inside(body, w, m, range, bitmap, p);
     }
-    mark_inside(body, w, m, range, bitmap, p);
 }

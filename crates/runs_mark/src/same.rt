@@ -11,10 +11,7 @@ fn same_bits(m: u32, selected: bool) -> u64
     requires { m ≤ 56 }
     ensures { result ≡ word m (λ _. selected) }
 {
-    if selected {
-        return (1 << m) - 1;
-    }
-    0
+    if selected { (1 << m) - 1 } else { 0 }
 }
 
 // A few entries, at most 56.
@@ -32,11 +29,7 @@ fn fill(bitmap: &mut [u8], a: usize, k: usize, selected: bool)
         ≡ appended bitmap.old (8 * a) (word (8 * k) (λ _. selected)) (8 * k) }
 {
     let byte = same_bits(8, selected) as u8;
-    let mut i: usize = 0;
-    while i < k {
-        bitmap[a + i] = byte;
-        i += 1;
-    }
+    bitmap[a..a + k].fill(byte);
 }
 
 // m entries from the first bit of byte a on.
@@ -47,10 +40,9 @@ fn mark_bytes(bitmap: &mut [u8], a: usize, m: usize, selected: bool)
 {
     let k = m / 8;
     fill(bitmap, a, k, selected);
-    if m % 8 == 0 {
-        return;
+    if m % 8 != 0 {
+        mark_few(bitmap, 8 * (a + k), m % 8, selected);
     }
-    mark_few(bitmap, 8 * (a + k), m % 8, selected);
 }
 
 // m entries that are all selected, or none of them, from bit p on.
@@ -60,9 +52,9 @@ pub fn mark_same(bitmap: &mut [u8], p: usize, m: usize, selected: bool)
 {
     if m <= 56 {
         mark_few(bitmap, p, m, selected);
-        return;
+    } else {
+        let first = 8 - p % 8;
+        mark_few(bitmap, p, first, selected);
+        mark_bytes(bitmap, p / 8 + 1, m - first, selected);
     }
-    let first = 8 - p % 8;
-    mark_few(bitmap, p, first, selected);
-    mark_bytes(bitmap, p / 8 + 1, m - first, selected);
 }

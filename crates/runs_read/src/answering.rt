@@ -19,7 +19,7 @@ pub fn one_answer(page: &[u8], at: usize, w: u32, n: usize, covered: usize) -> R
         length: info[2],
         value: info[3] as u32,
         next: info[4],
-        body_at: body_at,
-        body_len: body_len,
+        body_at,
+        body_len,
     }
 }

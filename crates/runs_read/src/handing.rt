@@ -18,15 +18,14 @@ pub fn one_run<'a, 'b>(
 ) -> &'a [u8]
     ensures { handed result.now info.new ≡ one_run w n covered page.now at }
 {
-    let run = run_from(page, at, w, n, covered);
-    match run {
+    match run_from(page, at, w, n, covered) {
         Run::Refused(code) => {
             *info = [code as usize, 0, 0, 0, 0];
-            return &page[..0];
+            &page[..0]
         }
         Run::Repeated { count, value, next } => {
             *info = [0, 0, count, value as usize, next];
-            return &page[..0];
+            &page[..0]
         }
         Run::Packed {
             groups,
@@ -34,7 +33,7 @@ pub fn one_run<'a, 'b>(
             next,
         } => {
             *info = [0, 1, 8 * groups, 0, next];
-            return &page[start..next];
+            &page[start..next]
         }
     }
 }

@@ -4,7 +4,6 @@ ghost use Rattle.rules.specs.Runs.{read, stream_fault};
 
 use crate::plain::run_at;
 use rules::Run;
-use words::counts::left_after;
 
 // 0, or the code of the first fault in reading order.
 pub fn stream_fault(page: &[u8], w: usize, n: usize) -> u32
@@ -16,20 +15,12 @@ pub fn stream_fault(page: &[u8], w: usize, n: usize) -> u32
     while 0 < left {
         let run = run_at(page, at, w, left);
         match run {
-            Run::Repeated {
-                count,
-                value: _,
-                next,
-            } => {
-                left = left_after(left, count);
+            Run::Repeated { count, next, .. } => {
+                left = left.saturating_sub(count);
                 at = next;
             }
-            Run::Packed {
-                groups,
-                start: _,
-                next,
-            } => {
-                left = left_after(left, 8 * groups);
+            Run::Packed { groups, next, .. } => {
+                left = left.saturating_sub(8 * groups);
                 at = next;
             }
             Run::Refused(code) => {

@@ -13,10 +13,7 @@ use words::loads::load4;
 fn header_at(page: &[u8], at: usize) -> Number
     ensures { result ≡ plain_header page.now at }
 {
-    if page.len() <= 4 {
-        return Number::Ended;
-    }
-    if page.len() - 4 <= at {
+    if page.len() <= 4 || page.len() - 4 <= at {
         return Number::Ended;
     }
     let header = page[at] as u64;
@@ -41,7 +38,7 @@ fn repeated_at(part: &[u8], at: usize, w: usize, left: usize, count: usize) -> R
         return Run::Refused(8);
     }
     Run::Repeated {
-        count: count,
+        count,
         value: value as u32,
         next: at + k,
     }

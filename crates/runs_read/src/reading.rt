@@ -46,7 +46,7 @@ fn repeated_at(part: &[u8], at: usize, w: usize, left: usize, count: usize) -> R
         return Run::Refused(code);
     }
     Run::Repeated {
-        count: count,
+        count,
         value: value as u32,
         next: at + k,
     }
@@ -77,7 +77,7 @@ pub fn packed_at(part: &[u8], at: usize, w: usize, left: usize, groups: usize) -
         return Run::Refused(code);
     }
     Run::Packed {
-        groups: groups,
+        groups,
         start: at,
         next: at + w * groups,
     }

@@ -11,7 +11,6 @@ use rules::Run;
 use runs_mark::packed::mark_packed;
 use runs_mark::same::mark_same;
 use runs_read::plain::run_at;
-use words::counts::min;
 
 // A repeated run's m entries, all selected or none of them, from bit p on: the bitmap's part from the run's
 // first byte is lent on.
@@ -41,7 +40,7 @@ fn mark_body(
         ≡ appended bitmap.old p
         (word m (λ k. ranged range (field low_first page.now (8 * start + k * w) w))) m }
 {
-    let end = min(start + (m * w + 7) / 8 + 8, page.len());
+    let end = (start + (m * w + 7) / 8 + 8).min(page.len());
     let from = p / 8;
     mark_packed(&page[start..end], w, m, range, &mut bitmap[from..], p % 8);
 }
@@ -67,7 +66,7 @@ pub fn mark_runs(page: &[u8], w: usize, n: usize, range: Range, bitmap: &mut [u8
                 start,
                 next,
             } => {
-                mark_body(page, start, w, min(8 * groups, n - i), range, bitmap, i);
+                mark_body(page, start, w, (8 * groups).min(n - i), range, bitmap, i);
                 i += 8 * groups;
                 at = next;
             }

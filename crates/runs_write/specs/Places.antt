@@ -1,35 +1,34 @@
 -- The entries from a place on: where a stretch and a packed run go on, and where they end.
-use Rattle.std.specs.Prelude.{◌≡◌, length, drop, get_or}
+use Rattle.std.specs.Prelude.{◌≡◌, cond, eqb, length, drop, get_or}
+use Rattle.std.specs.List.{prefix_len}
 use Rattle.std.proofs.Math.Path.{refl}
-use Rattle.std.proofs.Common.{sym, ap, ◌∙◌, add-one, drop_of_length-le}
+use Rattle.std.proofs.Common.{sym, ap, ◌∙◌, drop_of_length-le}
 use mathlib.Core.List.{List, [], ◌∷◌}
 use Prim.Native.Nat.{ℕ, zero, suc, ◌+◌, ◌≤◌, ◌<◌}
+use native.Mathlib.Omega.{arith}
 use Rattle.std.proofs.Math.Seq.{drop-cons, drop-drop}
-use borrow.Author.Tests.{le-leb, lt-leb, eq-eqb, ne_eqb}
+use borrow.Author.Tests.{le-leb, lt-leb, eq-eqb}
 use Rattle.rules.specs.RunWriter.{equal_to, stretch, groups_of}
+
+-- the equal entries in front are those of which none differs before them
+equal_prefix : (x : ℕ) (s : List ℕ) → prefix_len (λ y. eqb y x) s ≡ equal_to x s
+unfolding equal_to
+equal_prefix x [] = refl
+equal_prefix x (y ∷ s) = ap (λ (n : ℕ). cond (eqb y x) (1 + n) 0) (equal_prefix x s) ∙ ap (λ (n : ℕ). cond (eqb y x) n 0) (omega arith)
 
 module _ (s : List ℕ) where
   -- ---- a stretch
-
-  pub stretch_from : (p : ℕ) → p < length s → stretch (drop p s) ≡ suc (equal_to (get_or s p 0) (drop (p + 1) s))
-  unfolding stretch
-  stretch_from p h = rw (drop-cons s p 0 h, add-one)
 
   pub stretch-past : (p : ℕ) → length s ≤ p → stretch (drop p s) ≡ 0
   unfolding stretch
   stretch-past p h = rw (drop_of_length-le s h)
 
-  pub equal-more : (x i : ℕ) → i < length s → get_or s i 0 ≡ x → equal_to x (drop i s) ≡ suc (equal_to x (drop (i + 1) s))
-  unfolding equal_to
-  equal-more x i h e = rw (drop-cons s i 0 h, eq-eqb _ x e, add-one)
-
-  pub equal_other : (x i : ℕ) → i < length s → (get_or s i 0 ≡ x → ⊥) → equal_to x (drop i s) ≡ 0
-  unfolding equal_to
-  equal_other x i h e = rw (drop-cons s i 0 h, ne_eqb _ x e)
-
-  pub equal-past : (x i : ℕ) → length s ≤ i → equal_to x (drop i s) ≡ 0
-  unfolding equal_to
-  equal-past x i h = rw (drop_of_length-le s h)
+  pub stretch_prefix : (p x : ℕ) → p < length s → x ≡ get_or s p 0
+      → prefix_len (λ y. eqb y x) (drop p s) ≡ stretch (drop p s)
+  unfolding stretch equal_to
+  stretch_prefix p x h first =
+      let e : drop p s ≡ x ∷ drop (suc p) s = rw first (drop-cons s p 0 h) in
+      equal_prefix x (drop p s) ∙ ap (equal_to x) e ∙ rw (eq-eqb x x refl) (ap stretch (sym e))
 
   -- ---- an open packed run
 

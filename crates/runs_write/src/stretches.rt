@@ -9,18 +9,13 @@ use rules::Next;
 fn stretch_at(entries: &[u32], p: usize) -> usize
     ensures { result ≡ stretch (drop p entries.now) }
 {
-    if entries.len() <= p {
+    let Some(first) = entries.get(p) else {
         return 0;
-    }
-    let first = entries[p];
-    let mut i = p + 1;
-    while i < entries.len() {
-        if entries[i] != first {
-            return i - p;
-        }
-        i += 1;
-    }
-    i - p
+    };
+    entries[p..]
+        .iter()
+        .take_while(|entry| *entry == first)
+        .count()
 }
 
 // How many groups a packed run from place p on takes: to the next repeated run, or the end, or 63.
@@ -28,19 +23,13 @@ fn groups_at(entries: &[u32], p: usize) -> usize
     requires { p ≤ 16384 }
     ensures { result ≡ groups_of 63 (drop p entries.now) }
 {
-    let mut groups: usize = 0;
-    let mut at = p;
-    while groups < 63 {
-        if entries.len() <= at {
+    for groups in 0..63 {
+        let at = p + 8 * groups;
+        if entries.len() <= at || 8 <= stretch_at(entries, at) {
             return groups;
         }
-        if 8 <= stretch_at(entries, at) {
-            return groups;
-        }
-        groups += 1;
-        at += 8;
     }
-    groups
+    63
 }
 
 // The run that begins at place p.
@@ -50,9 +39,10 @@ pub fn next_run(entries: &[u32], p: usize) -> Next
 {
     let count = stretch_at(entries, p);
     if 8 <= count {
-        return Next::Repeats(count);
+        Next::Repeats(count)
+    } else {
+        Next::Packs(groups_at(entries, p))
     }
-    Next::Packs(groups_at(entries, p))
 }
 
 // How many entries a run takes, 8 a group; the last group may pass the 16384 by 7.

@@ -13,7 +13,6 @@ use crate::stretches::{next_run, taken};
 use packed_entries::packing::pack_part;
 use rules::Next;
 use varints::writing::put_number;
-use words::counts::min;
 use words::stores::store_low;
 
 // Equal entries from place p on: an even header, and their value behind it, low byte first.
@@ -45,7 +44,7 @@ fn put_groups(entries: &[u32], p: usize, groups: usize, w: u32, page: &mut [u8],
         ≡ put page.old from
         (packed low_first w (filled groups (drop p entries.now))) }
 {
-    let m = min(8 * groups, entries.len() - p);
+    let m = (8 * groups).min(entries.len() - p);
     let laid = (m * w as usize + 7) / 8;
     pack_part(entries, p, m, w, page, from);
     store_low(page, from + laid, 0, w as usize * groups - laid);

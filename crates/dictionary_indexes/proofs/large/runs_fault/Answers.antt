@@ -48,7 +48,7 @@ loop-i-preserved-in-Repeated c =
       judging-repeated a.w a.n a.page.now (omega arith) c.loop-i.invariant.2 repeated-run,
       on_repeated _ (seeks (leb a.limit)) _ _ _ (omega arith) c.loop-i.invariant.3 repeated-run
           (seeks-same (leb a.limit) c.loop-i.i c.in-Repeated.count c.in-Repeated.value c.loop-i.large ran.0
-          c.either-large.ensures),
+          refl),
     )
 
 pub overflow_mul-groups : goal.overflow_mul-groups
@@ -56,8 +56,8 @@ overflow_mul-groups c =
     let packed-run = sym c.run_at-run.ensures ∙ c.in-Packed.is in
     omega (arith, ran_packed _ _ _ _ packed-run)
 
-pub some_packed-here-requires : goal.some_packed-here-requires
-some_packed-here-requires c =
+pub some_packed-large-requires : goal.some_packed-large-requires
+some_packed-large-requires c =
     let packed-run = sym c.run_at-run.ensures ∙ c.in-Packed.is in
     let ran = ran_packed _ _ _ _ packed-run in (
       search rules,
@@ -97,8 +97,8 @@ loop-i-preserved c =
       judging-packed a.w a.n a.page.now (omega arith) c.loop-i.invariant.2 packed-run,
       on_packed _ (seeks (leb a.limit)) _ _ _ (omega arith) c.loop-i.invariant.3 packed-run
           (seeks-body (leb a.limit) a.page.now a.w c.in-Packed.start c.in-Packed.groups (a.n - c.loop-i.i) c.loop-i.i
-          c.min.result c.loop-i.large c.some_packed-here.result
-          c.min.ensures c.some_packed-here.ensures c.either-large-in-Packed.ensures),
+          c.min.result c.loop-i.large c.some_packed-large.result
+          c.min.ensures c.some_packed-large.ensures refl),
     )
 
 pub returns-in-Refused : goal.returns-in-Refused

@@ -14,16 +14,10 @@ wide x fits = record { sfits = omega (arith, fits.sfits) }
 widened : (x : ℤ) → SFits w32 x → to_z w64 (of_z w64 (to_z w32 (of_z w32 x))) ≡ x
 widened x fits = rw (to_z-of_z w32 x fits) (to_z-of_z w64 x (wide x fits))
 
-pub overflow_cast-result : goal.overflow_cast-result
-overflow_cast-result c = rw (to_z-of_z w32 c.args.x c.ranges.x) (wide _ c.ranges.x)
-
 pub returns-then-equal : goal.returns-then-equal
 returns-then-equal c =
-    rw (widened c.args.x c.ranges.x, to_z-of_z w64 c.args.z c.ranges.z, c.if-equal.true)
+    rw (c.from-x.ensures, widened c.args.x c.ranges.x, to_z-of_z w64 c.args.z c.ranges.z, c.if-equal.true)
 
-pub overflow_cast-result-2 : goal.overflow_cast-result-2
-overflow_cast-result-2 c = rw (to_z-of_z w32 c.args.x c.ranges.x) (wide _ c.ranges.x)
-
-pub returns : goal.returns
-returns c =
-    rw (widened c.args.x c.ranges.x, to_z-of_z w64 c.args.z c.ranges.z, c.if-equal.false)
+pub returns-else-equal : goal.returns-else-equal
+returns-else-equal c =
+    rw (c.from-x.ensures, widened c.args.x c.ranges.x, to_z-of_z w64 c.args.z c.ranges.z, c.if-equal.false)

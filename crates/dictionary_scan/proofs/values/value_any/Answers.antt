@@ -4,5 +4,5 @@ use native.Mathlib.Omega.{arith}
 use Rattle.dictionary_scan.specs.Values.{value-past}
 use Rattle.dictionary_scan.proofs.values.value_any.Goals as goal
 
-pub returns : goal.returns
-returns c = sym (value-past _ _ (omega arith))
+pub returns-else-i-dict : goal.returns-else-i-dict
+returns-else-i-dict c = sym (value-past _ _ (omega arith))

@@ -1,67 +1,59 @@
--- `runs_mark::bits::append_bits` meets its contract. The loop's invariant: the first 8 × i bits are in place.
+-- `runs_mark::bits::append_bits` meets its contract: each piece is put behind those before it, and the last one is what
+-- is left of the number.
 use mathlib.Core.Path.{◌≡◌, sym, ap, subst, ◌∙◌}
 use borrow.Author.Rules.{rules}
 use Prim.Native.Nat.{ℕ, ◌+◌, ◌-◌, ◌*◌, ◌/◌, ◌%◌, ◌^◌, ◌<◌}
 use native.Mathlib.Omega.{arith}
-use native.Mathlib.Nat.{mod-lt}
-use lib.Pow.{pow_pos}
-use lib.ListN.{length}
 use Rattle.rules.specs.Bits.{number}
 use Rattle.words.specs.Appended.{appended}
 use Rattle.runs_mark.specs.SeveralGoes.{Begun}
 use Rattle.runs_mark.specs.PieceByPiece.{pieces_none, pieces_more, last-piece, pieces_all}
 use Rattle.runs_mark.proofs.bits.append_bits.Goals as goal
 
-pub loop-i-init : goal.loop-i-init
-loop-i-init c = (omega arith, omega arith, pieces_none _ _ _)
+pub loop-piece-init : goal.loop-piece-init
+loop-piece-init c = pieces_none _ _ _
 
-pub append_at-requires : goal.append_at-requires
-append_at-requires c =
-    let small : c.bits_at.result < 2 ^ 56 = rw c.bits_at.ensures (mod-lt _ (pow_pos 56)) in
-    search rules
-
-pub loop-i-preserved : goal.loop-i-preserved
-loop-i-preserved c =
-    let l = c.loop-i in
+pub loop-piece-preserved : goal.loop-piece-preserved
+loop-piece-preserved c =
+    let l = c.loop-piece in
     let a = c.args in
     let n = number a.bits.now in
-    let size : length c.append_at.new.out ≡ length l.bitmap =
-    c.append_at.auto.out in
-    let place : 8 * l.i + 56 ≡ 8 * (l.i + 7) = omega arith in
+    let bit : 8 * (7 * l.piece) ≡ 56 * l.piece = omega arith in
+    let place : 56 * l.piece + 56 ≡ 56 * (l.piece + 1) = omega arith in
     let stored : c.append_at.new.out
-    ≡ appended l.bitmap (a.p + 8 * l.i) (n / 2 ^ (8 * l.i) % 2 ^ 56) 56 =
+    ≡ appended l.bitmap (a.p + 56 * l.piece) (n / 2 ^ (56 * l.piece) % 2 ^ 56) 56 =
     c.append_at.ensures
-    ∙ ap (λ (x : ℕ). appended l.bitmap (a.p + 8 * l.i) x 56) c.bits_at.ensures
-    in (
-      omega arith,
-      size ∙ l.invariant.1,
-      subst (λ (m : ℕ). Begun a.bitmap.now a.p (n % 2 ^ m) m c.append_at.new.out) place
-          (pieces_more a.bitmap.now a.p n l.bitmap _ (8 * l.i) 56 (omega arith) l.invariant.2 stored),
-    )
+    ∙ ap (λ (x : ℕ). appended l.bitmap (a.p + 56 * l.piece) x 56)
+    (c.bits_at.ensures ∙ ap (λ (k : ℕ). n / 2 ^ k % 2 ^ 56) bit) in
+    subst (λ (m : ℕ). Begun a.bitmap.now a.p (n % 2 ^ m) m c.append_at.new.out) place
+    (pieces_more a.bitmap.now a.p n l.bitmap _ (56 * l.piece) 56 (omega arith) l.invariant stored)
 
 pub append_at-requires-2 : goal.append_at-requires-2
 append_at-requires-2 c =
     let a = c.args in
-    let i = c.loop-i.i in
-    let whole : a.k ≡ 8 * i + (a.k - 8 * i) = omega arith in
-    let fits : number a.bits.now < 2 ^ (8 * i + (a.k - 8 * i)) =
-    rw (← whole) c.requires.3 in
-    let small : c.bits_at-2.result < 2 ^ (a.k - 8 * i) =
-    rw c.bits_at-2.ensures (last-piece (number a.bits.now) (8 * i) (a.k - 8 * i) 56 (omega arith) fits).1 in
+    let m = 56 * ((a.k - 1) / 56) in
+    let bit : 8 * (7 * ((a.k - 1) / 56)) ≡ m = omega arith in
+    let whole : a.k ≡ m + (a.k - m) = omega arith in
+    let fits : number a.bits.now < 2 ^ (m + (a.k - m)) = rw (← whole) c.requires.3 in
+    let small : c.bits_at-last.result < 2 ^ (a.k - m) =
+    rw (c.bits_at-last.ensures, bit) (last-piece (number a.bits.now) m (a.k - m) 56 (omega arith) fits).1 in
     search rules
 
 pub returns : goal.returns
 returns c =
     let a = c.args in
-    let l = c.loop-i in
+    let l = c.loop-piece in
     let n = number a.bits.now in
-    let rest = a.k - 8 * l.i in
-    let whole : a.k ≡ 8 * l.i + rest = omega arith in
-    let fits : n < 2 ^ (8 * l.i + rest) = rw (← whole) c.requires.3 in
-    let stored : c.append_at-2.new.out
-    ≡ appended l.bitmap (a.p + 8 * l.i) (n / 2 ^ (8 * l.i) % 2 ^ 56) rest =
+    let m = 56 * ((a.k - 1) / 56) in
+    let rest = a.k - m in
+    let bit : 8 * (7 * ((a.k - 1) / 56)) ≡ m = omega arith in
+    let all : 56 * l.piece ≡ m = omega arith in
+    let whole : a.k ≡ m + rest = omega arith in
+    let fits : n < 2 ^ (m + rest) = rw (← whole) c.requires.3 in
+    let stored : c.append_at-2.new.out ≡ appended l.bitmap (a.p + m) (n / 2 ^ m % 2 ^ 56) rest =
     c.append_at-2.ensures
-    ∙ ap (λ (x : ℕ). appended l.bitmap (a.p + 8 * l.i) x rest)
-    c.bits_at-2.ensures in
-    pieces_all a.bitmap.now a.p n l.bitmap _ (8 * l.i) rest 56 (omega arith) fits l.invariant.2 stored
+    ∙ ap (λ (x : ℕ). appended l.bitmap (a.p + m) x rest)
+    (c.bits_at-last.ensures ∙ ap (λ (k : ℕ). n / 2 ^ k % 2 ^ 56) bit) in
+    pieces_all a.bitmap.now a.p n l.bitmap _ m rest 56 (omega arith) fits
+    (subst (λ (k : ℕ). Begun a.bitmap.now a.p (n % 2 ^ k) k l.bitmap) all l.invariant) stored
     ∙ ap (appended a.bitmap.now a.p n) (sym whole)

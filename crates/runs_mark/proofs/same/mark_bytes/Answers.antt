@@ -7,15 +7,15 @@ use Rattle.words.specs.Appended.{appended}
 use Rattle.runs_mark.specs.SeveralGoes.{words_twice}
 use Rattle.runs_mark.proofs.same.mark_bytes.Goals as goal
 
-pub returns-then-m-eq0 : goal.returns-then-m-eq0
-returns-then-m-eq0 c =
+pub returns-else-m-ne0 : goal.returns-else-m-ne0
+returns-else-m-ne0 c =
     let a = c.args in
     let all : 8 * (a.m / 8) ≡ a.m = omega arith in
     c.fill.ensures
     ∙ ap (λ (k : ℕ). appended a.bitmap.now (8 * a.a) (word k (λ _. a.selected)) k) all
 
-pub returns : goal.returns
-returns c =
+pub returns-then-m-ne0 : goal.returns-then-m-ne0
+returns-then-m-ne0 c =
     let a = c.args in
     let k = a.m / 8 in
     words_twice a.bitmap.now _ _ (8 * a.a) (8 * k) (a.m % 8) (8 * (a.a + k)) a.m (λ _. a.selected)

@@ -13,5 +13,5 @@ returns-then-selected c =
     let m = c.args.m in
     rw (one_shl 64 m (omega arith), c.if-selected.true) (sym (word_all m))
 
-pub returns : goal.returns
-returns c = rw c.if-selected.false (sym (word_none c.args.m))
+pub returns-else-selected : goal.returns-else-selected
+returns-else-selected c = rw c.if-selected.false (sym (word_none c.args.m))

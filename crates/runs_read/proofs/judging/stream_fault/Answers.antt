@@ -16,14 +16,14 @@ loop-left-init c = (search rules, judge-comes _ _ _)
 pub loop-left-smaller-in-Repeated : goal.loop-left-smaller-in-Repeated
 loop-left-smaller-in-Repeated c =
     let repeated-run = sym c.run_at-run.ensures ∙ c.in-Repeated.is in
-    omega (arith, ran_repeated _ _ _ _ (repeated-run), c.left_after-left.ensures)
+    omega (arith, ran_repeated _ _ _ _ (repeated-run), c.saturating_sub-left.ensures)
 
 pub loop-left-preserved-in-Repeated : goal.loop-left-preserved-in-Repeated
 loop-left-preserved-in-Repeated c =
     let repeated-run = sym c.run_at-run.ensures ∙ c.in-Repeated.is in
     let b = c in (
-      omega (arith, c.left_after-left.ensures),
-      rw c.left_after-left.ensures
+      omega (arith, c.saturating_sub-left.ensures),
+      rw c.saturating_sub-left.ensures
           (on_repeated judge b.loop-left-test.true b.loop-left.invariant.1 (repeated-run)),
     )
 
@@ -35,14 +35,14 @@ overflow_mul-groups c =
 pub loop-left-smaller : goal.loop-left-smaller
 loop-left-smaller c =
     let packed-run = sym c.run_at-run.ensures ∙ c.in-Packed.is in
-    omega (arith, ran_packed _ _ _ _ (packed-run), c.left_after-left-in-Packed.ensures)
+    omega (arith, ran_packed _ _ _ _ (packed-run), c.saturating_sub-left-in-Packed.ensures)
 
 pub loop-left-preserved : goal.loop-left-preserved
 loop-left-preserved c =
     let packed-run = sym c.run_at-run.ensures ∙ c.in-Packed.is in
     let b = c in (
-      omega (arith, c.left_after-left-in-Packed.ensures),
-      rw c.left_after-left-in-Packed.ensures
+      omega (arith, c.saturating_sub-left-in-Packed.ensures),
+      rw c.saturating_sub-left-in-Packed.ensures
           (on_packed judge b.loop-left-test.true b.loop-left.invariant.1 (packed-run)),
     )
 

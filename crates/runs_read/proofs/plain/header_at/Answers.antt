@@ -5,15 +5,15 @@ use lib.ListN.{get_or}
 use borrow.Author.Tests.{lt-ltb, le-ltb}
 use Rattle.runs_read.specs.Headers.{too_few, byte_there}
 use Rattle.runs_read.proofs.plain.header_at.Goals as goal
+use Rattle.runs_read.proofs.plain.header_at.Goals.{then-page-le4-via-then-page-le4, then-page-le4-via-else-page-le4+then-page-at}
 
 pub returns-then-page-le4 : goal.returns-then-page-le4
-returns-then-page-le4 c = let a = c.args in sym (too_few a.page.now a.at (omega arith))
-
-pub returns-then-page-at : goal.returns-then-page-at
-returns-then-page-at c = let a = c.args in sym (too_few a.page.now a.at (omega arith))
-
-pub overflow_cast-header : goal.overflow_cast-header
-overflow_cast-header c = omega (arith, c.type_inv.page c.args.at)
+returns-then-page-le4 c =
+    let a = c.args in
+    elim c.then-page-le4.branch [
+      | then-page-le4-via-then-page-le4 w ↦ sym (too_few a.page.now a.at (omega arith))
+      | then-page-le4-via-else-page-le4+then-page-at w ↦ sym (too_few a.page.now a.at (omega arith))
+    ]
 
 pub returns-then-header-ge128 : goal.returns-then-header-ge128
 returns-then-header-ge128 c =

@@ -11,7 +11,7 @@ returns-then-count-ge8 c =
     let a = c.args in
     ap Repeats c.stretch_at-count.ensures ∙ sym (next-repeats (drop a.p a.entries.now) (omega arith))
 
-pub returns : goal.returns
-returns c =
+pub returns-else-count-ge8 : goal.returns-else-count-ge8
+returns-else-count-ge8 c =
     let a = c.args in
     ap Packs c.groups_at.ensures ∙ sym (next-packs (drop a.p a.entries.now) (omega arith))

@@ -1,32 +1,26 @@
--- `runs_write::stretches::stretch_at` meets its contract: the entries passed are equal to the first, and what is
--- equal behind them is still to come.
-use native.Mathlib.Omega.{arith}
-use lib.ListN.{get_or}
-use Rattle.runs_write.specs.Places.{stretch_from, stretch-past, equal-more, equal_other, equal-past}
+-- `runs_write::stretches::stretch_at` meets its contract: the entries that the chain counts are those equal to the first.
+use Rattle.std.proofs.Common.{rules, tests, arith, ap, sym, ◌∙◌, drop, nat_eq}
+use Rattle.std.specs.Slice.Iter.{iter_rest}
+use Rattle.std.proofs.lemmas.Iterator.{YieldsList-from_slice}
+use Rattle.std.proofs.lemmas.Iterator.Consumers.{count_from_yields_List}
+use Rattle.std.proofs.lemmas.Iterator.Search.{YieldsList-from_take_while}
+use Rattle.std.proofs.lemmas.List.{take_rest}
+use Rattle.std.proofs.lemmas.List.Folds.{length-prefix_len}
+use Rattle.runs_write.specs.Places.{stretch_prefix, stretch-past}
 use Rattle.runs_write.proofs.stretches.stretch_at.Goals as goal
 
-pub returns-then-entries-p : goal.returns-then-entries-p
-returns-then-entries-p c = let a = c.args in omega (arith, stretch-past a.entries.now a.p c.if-entries-p.true)
-
-pub loop-i-init : goal.loop-i-init
-loop-i-init c =
-    let a = c.args in
-    (omega arith, omega arith, omega (arith, stretch_from a.entries.now a.p c.if-entries-p.false))
-
-pub returns-then-entries-i : goal.returns-then-entries-i
-returns-then-entries-i c =
-    let l = c.loop-i in
-    let a = c.args in
-    omega (arith, equal_other a.entries.now _ l.i (omega arith) c.if-entries-i.true)
-
-pub loop-i-preserved : goal.loop-i-preserved
-loop-i-preserved c =
-    let l = c.loop-i in
-    let a = c.args in
-    (omega arith, omega arith, omega (arith, equal-more a.entries.now _ l.i (omega arith) c.if-entries-i.false))
+pub returns-in_default : goal.returns-in_default
+returns-in_default c = sym (stretch-past c.args.entries.now c.args.p c.in_default.ensures.lookup.3)
 
 pub returns : goal.returns
 returns c =
-    let l = c.loop-i in
-    let a = c.args in
-    omega (arith, equal-past a.entries.now (get_or a.entries.now a.p 0) l.i c.loop-i-test.false)
+    let s = drop c.args.p c.args.entries.now in
+    let first = c.in-Some.first.now in
+    let found = c.in-Some.ensures.lookup in
+    count_from_yields_List c.take_while.result _ c.count.ensures.ran
+    (YieldsList-from_take_while _ (λ x. nat_eq x first)
+    (YieldsList-from_slice s (ap iter_rest c.take_while.ensures.source ∙ c.iter.ensures.rest ∙ take_rest c.args.entries.now c.args.p))
+    c.take_while.ensures.closure
+    c.take_while.ensures.done (λ x b q k. search (rules, tests)))
+    ∙ length-prefix_len _ s
+    ∙ stretch_prefix c.args.entries.now c.args.p first found.3.0 (found.4 (omega arith) 0)
