@@ -19,19 +19,21 @@ pub fn one_run<'a, 'b>(
     ensures { handed result.now info.new ≡ one_run w n covered page.now at }
 {
     match run_from(page, at, w, n, covered) {
-        Run::Refused(code) => {
-            *info = [code as usize, 0, 0, 0, 0];
+        Err(refusal) => {
+            *info = [refusal.code() as usize, 0, 0, 0, 0];
             &page[..0]
         }
-        Run::Repeated { count, value, next } => {
+        Ok(Run::Repeated { count, value, next }) => {
             *info = [0, 0, count, value as usize, next];
             &page[..0]
         }
-        Run::Packed {
-            groups,
-            start,
-            next,
-        } => {
+        Ok(
+            Run::Packed {
+                groups,
+                start,
+                next,
+            },
+        ) => {
             *info = [0, 1, 8 * groups, 0, next];
             &page[start..next]
         }

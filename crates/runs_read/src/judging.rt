@@ -1,19 +1,20 @@
 // A whole run stream judged.
 ghost use Rattle.std.specs.Prelude.{◌≡◌, ◌≤◌};
 ghost use Rattle.rules.specs.Runs.{read, stream_fault};
+ghost use Rattle.rules.specs.Refusals.{fault};
 
 use crate::plain::run_at;
-use rules::Run;
+use rules::{Refusal, Run};
 
-// 0, or the code of the first fault in reading order.
-pub fn stream_fault(page: &[u8], w: usize, n: usize) -> u32
+// The first fault in reading order, if there is one.
+pub fn judge_stream(page: &[u8], w: usize, n: usize) -> Result<(), Refusal>
     requires { (w ≤ 32) × (n ≤ 16384) }
-    ensures { result ≡ stream_fault (read w n page.now) }
+    ensures { fault result ≡ stream_fault (read w n page.now) }
 {
     let mut at: usize = 0;
     let mut left = n;
     while 0 < left {
-        let run = run_at(page, at, w, left);
+        let run = run_at(page, at, w, left)?;
         match run {
             Run::Repeated { count, next, .. } => {
                 left = left.saturating_sub(count);
@@ -23,13 +24,10 @@ pub fn stream_fault(page: &[u8], w: usize, n: usize) -> u32
                 left = left.saturating_sub(8 * groups);
                 at = next;
             }
-            Run::Refused(code) => {
-                return code;
-            }
         }
     }
     if at < page.len() {
-        return 6;
+        return Err(Refusal::InputLeftOver);
     }
-    0
+    Ok(())
 }

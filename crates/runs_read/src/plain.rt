@@ -1,12 +1,12 @@
 // Plain runs, as short ones are: a header of one byte, and four bytes or more behind it. They are read
 // here, in so few steps that a loop over runs holds a copy; any other run is left to `reading`.
 ghost use Rattle.std.specs.Prelude.{◌≡◌, List, ℕ, ◌+◌, ◌^◌, ◌≤◌, ◌<◌, length, drop};
-ghost use Rattle.rules.specs.Runs.{repeated_at, headed, run_at};
+ghost use Rattle.rules.specs.Runs.{run_of, repeated_at, headed, run_at};
 ghost use Rattle.runs_read.specs.Headers.{plain_header};
 
 use crate::reading;
-use rules::{Number, Run};
-use varints::reading::fault_of;
+use rules::{Number, Refusal, Run};
+use varints::reading::refusal_of;
 use words::loads::load4;
 
 // The header of the plain run at a place: a number of seven bits.
@@ -24,38 +24,38 @@ fn header_at(page: &[u8], at: usize) -> Number
 }
 
 // The repeated run whose value is among the part's first four bytes; `at` is the part's place on its page.
-fn repeated_at(part: &[u8], at: usize, w: usize, left: usize, count: usize) -> Run
+fn repeated_at(part: &[u8], at: usize, w: usize, left: usize, count: usize) -> Result<Run, Refusal>
     requires { (w ≤ 32) × (4 ≤ length part.now) × (at + length part.now < 2 ^ 64) }
     ensures { (page : List ℕ) → drop at page ≡ part.now
-        → result ≡ repeated_at w left page count at }
+        → run_of result ≡ repeated_at w left page count at }
 {
     if left < count {
-        return Run::Refused(11);
+        return Err(Refusal::RunPastN);
     }
     let k = (w + 7) / 8;
     let value = load4(part, 0) as u64 % (1 << (8 * k));
     if 1 << w <= value {
-        return Run::Refused(8);
+        return Err(Refusal::ValueTooLarge);
     }
-    Run::Repeated {
+    Ok(Run::Repeated {
         count,
         value: value as u32,
         next: at + k,
-    }
+    })
 }
 
 // The run that a plain header announces; where there is no such header, a refusal.
-fn plain_at(page: &[u8], at: usize, w: usize, left: usize) -> Run
+fn plain_at(page: &[u8], at: usize, w: usize, left: usize) -> Result<Run, Refusal>
     requires { (w ≤ 32) × (left ≤ 16384) }
-    ensures { result ≡ headed w left page.now (plain_header page.now at) }
+    ensures { run_of result ≡ headed w left page.now (plain_header page.now at) }
 {
     let header = header_at(page, at);
     let Number::Read(h, next) = header else {
-        return Run::Refused(fault_of(header));
+        return Err(refusal_of(header));
     };
     let half = (h / 2) as usize;
     if half == 0 {
-        return Run::Refused(10);
+        return Err(Refusal::RunOfLength0);
     }
     if h % 2 == 0 {
         repeated_at(&page[next..], next, w, left, half)
@@ -66,29 +66,26 @@ fn plain_at(page: &[u8], at: usize, w: usize, left: usize) -> Run
 
 // The run at a place of the page; `reading` is asked for what is refused above. A plain run is given on field
 // by field, and what `reading` gives has a place of its own: so the copy in a loop stays small.
-pub fn run_at(page: &[u8], at: usize, w: usize, left: usize) -> Run
+pub fn run_at(page: &[u8], at: usize, w: usize, left: usize) -> Result<Run, Refusal>
     requires { (w ≤ 32) × (left ≤ 16384) }
-    ensures { result ≡ run_at w left page.now at }
+    ensures { run_of result ≡ run_at w left page.now at }
 {
-    let run = plain_at(page, at, w, left);
-    match run {
-        Run::Repeated { count, value, next } => {
-            return Run::Repeated { count, value, next };
-        }
-        Run::Packed {
-            groups,
-            start,
-            next,
-        } => {
-            return Run::Packed {
+    match plain_at(page, at, w, left) {
+        Ok(Run::Repeated { count, value, next }) => Ok(Run::Repeated { count, value, next }),
+        Ok(
+            Run::Packed {
                 groups,
                 start,
                 next,
-            };
-        }
-        Run::Refused(_) => {
+            },
+        ) => Ok(Run::Packed {
+            groups,
+            start,
+            next,
+        }),
+        Err(_) => {
             let other = reading::run_at(page, at, w, left);
-            return other;
+            other
         }
     }
 }

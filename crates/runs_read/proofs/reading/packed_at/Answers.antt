@@ -8,28 +8,30 @@ use lib.Dec.{ltb}
 use lib.ListN.{length}
 use borrow.Author.Tests.{ltb-false}
 use Rattle.rules.specs.Runs.{packed_at}
+use mathlib.Core.Path.{refl}
+use Rattle.answers.specs.Laws.{code_some, passed_up}
 use Rattle.runs_read.specs.Parts.{part_size}
 use Rattle.runs_read.specs.Bodies.{faulty-body, good-body, passed}
 use Rattle.runs_read.proofs.reading.packed_at.Goals as goal
-use Rattle.runs_read.proofs.reading.packed_at.Goals.{Else-code-ne0}
+use Rattle.runs_read.proofs.reading.packed_at.Goals.{In_ok-judge_packed}
 
-pub returns-then-code-ne0 : goal.returns-then-code-ne0
+pub returns-in_err-judge_packed : goal.returns-in_err-judge_packed
 unfolding packed_at
-returns-then-code-ne0 c page e =
+returns-in_err-judge_packed c page e =
     let a = c.args in
-    rw (part_size page a.at e)
+    rw (passed_up _ _ c.from_residual.ensures, part_size page a.at e)
     (faulty-body (ltb (a.left + 7) (8 * a.groups)) (ltb (length a.part.now) (a.w * a.groups)) true _
-    c.packed_fault-code.ensures c.if-code-ne0.true)
+    c.in_err-judge_packed.ensures (code_some _))
 
 -- without a fault the groups are not past n, and all there
-there : (c : Else-code-ne0)
+there : (c : In_ok-judge_packed)
     → let a = c.args in
     (8 * a.groups ≤ a.left + 7) × (a.w * a.groups ≤ length a.part.now)
 there c =
     let a = c.args in
     let tests =
     passed (ltb (a.left + 7) (8 * a.groups)) (ltb (length a.part.now) (a.w * a.groups)) true
-    c.packed_fault-code.ensures c.if-code-ne0.false in
+    c.in_ok-judge_packed.ensures refl in
     (ltb-false _ _ tests.0, ltb-false _ _ tests.1)
 
 pub overflow_mul-result : goal.overflow_mul-result
@@ -46,4 +48,4 @@ returns c page e =
     let a = c.args in
     rw (part_size page a.at e)
     (good-body (ltb (a.left + 7) (8 * a.groups)) (ltb (length a.part.now) (a.w * a.groups)) true _
-    c.packed_fault-code.ensures c.if-code-ne0.false)
+    c.in_ok-judge_packed.ensures refl)

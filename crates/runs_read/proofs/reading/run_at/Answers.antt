@@ -18,7 +18,7 @@ use Rattle.runs_read.proofs.reading.run_at.Goals as goal
 pub returns-in_default : goal.returns-in_default
 returns-in_default c =
     let n = c.number_at-header in
-    ap Refused c.fault_of.ensures ∙ unread _ _ _ n.result (not_read _ c.in_default.not-Read)
+    ap Refused (c.refusal_of.ensures c.in_default.not-Read) ∙ unread _ _ _ n.result (not_read _ c.in_default.not-Read)
     ∙ ap (headed _ _ _) n.ensures
 
 -- a run by the header that was read is the run at the place

@@ -1,10 +1,10 @@
--- `runs_read::reading::packed_fault` meets its contract: its tests are those of the rule; groups that are not past
+-- `runs_read::reading::judge_packed` meets its contract: its tests are those of the rule; groups that are not past
 -- n are few.
 use Prim.Native.Nat.{◌+◌, ◌*◌}
 use native.Mathlib.Nat.{mul-le-mul_right}
 use native.Mathlib.Omega.{arith}
 use borrow.Author.Tests.{lt-ltb, le-ltb}
-use Rattle.runs_read.proofs.reading.packed_fault.Goals as goal
+use Rattle.runs_read.proofs.reading.judge_packed.Goals as goal
 
 pub returns-then-left-groups : goal.returns-then-left-groups
 returns-then-left-groups c = rw (lt-ltb (c.args.left + 7) (8 * c.args.groups) (omega arith))

@@ -1,10 +1,10 @@
--- `runs_read::reading::repeated_fault` meets its contract: its tests are those of the rule.
+-- `runs_read::reading::judge_repeated` meets its contract: its tests are those of the rule.
 use Prim.Native.Nat.{◌^◌}
 use native.Mathlib.Omega.{arith}
 use borrow.Author.Tests.{lt-ltb, le-ltb}
 use Rattle.rules.specs.Bits.{ceil}
 use Rattle.words.specs.Bits.{one_shl}
-use Rattle.runs_read.proofs.reading.repeated_fault.Goals as goal
+use Rattle.runs_read.proofs.reading.judge_repeated.Goals as goal
 
 pub returns-then-left-count : goal.returns-then-left-count
 returns-then-left-count c = let a = c.args in rw (lt-ltb a.left a.count (omega arith))
