@@ -4,21 +4,15 @@ ghost use Rattle.std.specs.Prelude.{◌≡◌, ◌&&◌, ◌+◌, ◌*◌, ◌/�
 ghost use Rattle.rules.specs.Bits.{ceil, field, some_below};
 ghost use Rattle.rules.specs.Bits.Order.{low_first};
 ghost use Rattle.rules.specs.Answer.{faulty, ◌then◌};
+ghost use Rattle.rules.specs.Refusals.{fault};
 ghost use Rattle.rules.specs.Runs.{read, stream_fault, stream_entry};
 
 use crate::windows::some_groups;
 use bitmaps::counted;
 use compare::ranges::range_to;
 use packed_select::select;
-use rules::Run;
+use rules::{Refusal, Run};
 use runs_read::plain::run_at;
-
-// 15, where one was found.
-fn large_fault(large: bool) -> u32
-    ensures { result ≡ faulty large 15 }
-{
-    if large { 15 } else { 0 }
-}
 
 // Do windows of eight bytes within the page's last `rest` bytes, which begin with m indexes, hold all of
 // them: whole groups, of at most sixteen bits.
@@ -52,7 +46,7 @@ fn some_counted(
         range_to(0, limit as u64, true),
         scratch,
     );
-    0 < counted(scratch, m).number
+    0 < counted(scratch, m)
 }
 
 // The same, through windows where they hold the run.
@@ -76,12 +70,18 @@ fn some_packed(
     }
 }
 
-// The stream's first fault in reading order, and 15 for an index that is too large only where it has none.
+// The stream's first fault in reading order, and an index that is too large only where it has none.
 // `scratch` is lent to write on.
-pub fn runs_fault(page: &[u8], w: usize, n: usize, limit: usize, scratch: &mut [u8]) -> u32
+pub fn judge_runs(
+    page: &[u8],
+    w: usize,
+    n: usize,
+    limit: usize,
+    scratch: &mut [u8],
+) -> Result<(), Refusal>
     requires { (w ≤ 32) × (n ≤ 16384) × (limit ≤ 16384) × (limit ≤ 2 ^ w)
         × (ceil n 8 ≤ length scratch.old) }
-    ensures { result
+    ensures { fault result
         ≡ (stream_fault (read w n page.now)
         then faulty (some_below n (λ i. leb limit (stream_entry w (read w n page.now) i)))
         15) }
@@ -90,7 +90,7 @@ pub fn runs_fault(page: &[u8], w: usize, n: usize, limit: usize, scratch: &mut [
     let mut i: usize = 0;
     let mut large = false;
     while i < n {
-        let run = run_at(page, at, w, n - i);
+        let run = run_at(page, at, w, n - i)?;
         match run {
             Run::Repeated { count, value, next } => {
                 large |= limit <= value as usize;
@@ -106,14 +106,13 @@ pub fn runs_fault(page: &[u8], w: usize, n: usize, limit: usize, scratch: &mut [
                 i += 8 * groups;
                 at = next;
             }
-            Run::Refused(code) => {
-                return code;
-            }
         }
     }
-    let late = large_fault(large);
     if at < page.len() {
-        return 6;
+        return Err(Refusal::InputLeftOver);
     }
-    late
+    if large {
+        return Err(Refusal::IndexTooLarge);
+    }
+    Ok(())
 }

@@ -1,9 +1,11 @@
 // The faults of a dictionary column: judged before a place is written.
 ghost use Rattle.std.specs.Prelude.{◌≡◌, ◌≤◌};
 ghost use Rattle.rules.specs.Dictionary as Dictionary;
+ghost use Rattle.rules.specs.Refusals.{fault};
 
 use crate::values::value_at;
-use dictionary_indexes::index_page::page_fault;
+use dictionary_indexes::index_page::judge_page;
+use rules::Refusal;
 
 // Is some value not above the one before it.
 fn unordered(dict: &[u8]) -> bool
@@ -16,31 +18,27 @@ fn unordered(dict: &[u8]) -> bool
     found
 }
 
-// 14, where the length is no multiple of 4 or over 65,536 bytes, before any value is read, or the values do
-// not ascend.
-pub fn dictionary_fault(dict: &[u8]) -> u32
-    ensures { result ≡ Dictionary.dictionary_fault dict.now }
+// Is the length a multiple of 4 and at most 65,536 bytes, before any value is read, and do the values ascend.
+pub fn judge_dictionary(dict: &[u8]) -> Result<(), Refusal>
+    ensures { fault result ≡ Dictionary.dictionary_fault dict.now }
 {
     if dict.len() % 4 != 0 {
-        return 14;
+        return Err(Refusal::MalformedDictionary);
     }
     if 65536 < dict.len() {
-        return 14;
+        return Err(Refusal::MalformedDictionary);
     }
     if unordered(dict) {
-        return 14;
+        return Err(Refusal::MalformedDictionary);
     }
-    0
+    Ok(())
 }
 
-// 14, the index page in reading order, and 15 only if that page is otherwise good.
-pub fn column_fault(dict: &[u8], page: &[u8], n: usize) -> u32
+// The dictionary, then the index page in reading order, and its indexes only if that page is otherwise good.
+pub fn judge_column(dict: &[u8], page: &[u8], n: usize) -> Result<(), Refusal>
     requires { n ≤ 16384 }
-    ensures { result ≡ Dictionary.column_fault dict.now n page.now }
+    ensures { fault result ≡ Dictionary.column_fault dict.now n page.now }
 {
-    let dictionary = dictionary_fault(dict);
-    if dictionary != 0 {
-        return dictionary;
-    }
-    page_fault(page, n, dict.len() / 4)
+    judge_dictionary(dict)?;
+    judge_page(page, n, dict.len() / 4)
 }

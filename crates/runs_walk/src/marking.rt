@@ -54,7 +54,9 @@ pub fn mark_runs(page: &[u8], w: usize, n: usize, range: Range, bitmap: &mut [u8
     let mut at: usize = 0;
     let mut i: usize = 0;
     while i < n {
-        let run = run_at(page, at, w, n - i);
+        let Ok(run) = run_at(page, at, w, n - i) else {
+            return;
+        };
         match run {
             Run::Repeated { count, value, next } => {
                 mark_repeated(bitmap, i, count, passes(range, value));
@@ -69,9 +71,6 @@ pub fn mark_runs(page: &[u8], w: usize, n: usize, range: Range, bitmap: &mut [u8
                 mark_body(page, start, w, (8 * groups).min(n - i), range, bitmap, i);
                 i += 8 * groups;
                 at = next;
-            }
-            Run::Refused(_) => {
-                return;
             }
         }
     }

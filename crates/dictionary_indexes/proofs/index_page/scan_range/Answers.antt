@@ -5,6 +5,7 @@ use mathlib.Core.List.{List}
 use Prim.Native.Nat.{ℕ}
 use native.Mathlib.Omega.{arith}
 use borrow.Author.Rules.{rules}
+use Rattle.rules.specs.Answer.{accepted}
 use Rattle.compare.specs.Range.{ranged}
 use Rattle.words.specs.Puts.{part_rest}
 use Rattle.bitmaps.specs.ScanEnds.{scanned_is}
@@ -37,4 +38,4 @@ returns c =
     ∙ ap (λ (l : List ℕ). marked (ranged a.range) (width_of a.page.now) a.n l a.bitmap.now)
     (part_rest a.page.now 1)
     ∙ indexes-marked (ranged a.range) a.n a.page.now a.bitmap.now c.requires.2 in
-    scanned_is 0 a.n _ _ _ _ refl bits c.counted.ensures
+    scanned_is 0 a.n _ _ _ _ refl bits (ap accepted c.counted.ensures)

@@ -9,7 +9,6 @@ use lib.Dec.{ltb}
 use lib.ListN.{take, drop}
 use borrow.Author.Rules.{rules}
 use Rattle.rules.specs.Bits.{ceil, put}
-use Rattle.rules.specs.declared.Answer.{Answer}
 use Rattle.bitmaps.specs.Counts.{count_ones}
 use Rattle.compare.specs.Range.{ranged}
 use Rattle.compare.specs.Ranges.{to_whole, usable}
@@ -40,7 +39,7 @@ returns c =
     let end = c.min-end.result in
     let a = c.args in
     let part = take (end - a.start) (drop a.start a.page.now) in
-    ap (λ (x : Answer). ltb 0 x.number) c.counted.ensures
+    ap (λ (x : ℕ). ltb 0 x) c.counted.ensures
     ∙ ap (λ l. ltb 0 (count_ones (take (ceil a.m 8) l))) c.select.ensures
     ∙ ap
     (λ (x : Range). ltb 0

@@ -7,6 +7,8 @@ use native.Mathlib.Omega.{arith}
 use borrow.Author.Rules.{rules}
 use Rattle.rules.specs.Bits.{word}
 use Rattle.compare.specs.Range.{ranged}
+use Rattle.std.specs.Prelude.{Ok}
+use Rattle.rules.specs.Runs.{run_of}
 use Rattle.runs_read.specs.Parts.{body-fits}
 use Rattle.runs_read.specs.RunRead.{ran_repeated, ran_packed}
 use Rattle.words.specs.Appended.{appended}
@@ -24,23 +26,23 @@ loop-i-init c =
 
 pub mark_repeated-requires : goal.mark_repeated-requires
 mark_repeated-requires c =
-    let repeated-run = sym c.run_at-run.ensures ∙ c.in-Repeated.is in
+    let repeated-run = sym c.in-Ok.ensures ∙ ap run_of (ap Ok c.in-Repeated.is) in
     let ran = ran_repeated _ _ _ _ repeated-run in
     (ran.0, omega arith, omega (arith, c.loop-i.invariant.1))
 
 pub overflow_add-i : goal.overflow_add-i
 overflow_add-i c =
-    let repeated-run = sym c.run_at-run.ensures ∙ c.in-Repeated.is in
+    let repeated-run = sym c.in-Ok.ensures ∙ ap run_of (ap Ok c.in-Repeated.is) in
     omega (arith, ran_repeated _ _ _ _ repeated-run)
 
 pub loop-i-smaller-in-Repeated : goal.loop-i-smaller-in-Repeated
 loop-i-smaller-in-Repeated c =
-    let repeated-run = sym c.run_at-run.ensures ∙ c.in-Repeated.is in
+    let repeated-run = sym c.in-Ok.ensures ∙ ap run_of (ap Ok c.in-Repeated.is) in
     omega (arith, ran_repeated _ _ _ _ repeated-run)
 
 pub loop-i-preserved-in-Repeated : goal.loop-i-preserved-in-Repeated
 loop-i-preserved-in-Repeated c =
-    let repeated-run = sym c.run_at-run.ensures ∙ c.in-Repeated.is in
+    let repeated-run = sym c.in-Ok.ensures ∙ ap run_of (ap Ok c.in-Repeated.is) in
     let ran = ran_repeated _ _ _ _ repeated-run in (
       omega arith,
       search rules,
@@ -54,12 +56,12 @@ loop-i-preserved-in-Repeated c =
 
 pub overflow_mul-groups : goal.overflow_mul-groups
 overflow_mul-groups c =
-    let packed-run = sym c.run_at-run.ensures ∙ c.in-Packed.is in
+    let packed-run = sym c.in-Ok.ensures ∙ ap run_of (ap Ok c.in-Packed.is) in
     omega (arith, ran_packed _ _ _ _ packed-run)
 
 pub mark_body-requires : goal.mark_body-requires
 mark_body-requires c =
-    let packed-run = sym c.run_at-run.ensures ∙ c.in-Packed.is in
+    let packed-run = sym c.in-Ok.ensures ∙ ap run_of (ap Ok c.in-Packed.is) in
     let ran = ran_packed _ _ _ _ packed-run in (
       search rules,
       omega arith,
@@ -76,22 +78,22 @@ mark_body-requires c =
 
 pub overflow_mul-i : goal.overflow_mul-i
 overflow_mul-i c =
-    let packed-run = sym c.run_at-run.ensures ∙ c.in-Packed.is in
+    let packed-run = sym c.in-Ok.ensures ∙ ap run_of (ap Ok c.in-Packed.is) in
     omega (arith, ran_packed _ _ _ _ packed-run)
 
 pub overflow_add-i-in-Packed : goal.overflow_add-i-in-Packed
 overflow_add-i-in-Packed c =
-    let packed-run = sym c.run_at-run.ensures ∙ c.in-Packed.is in
+    let packed-run = sym c.in-Ok.ensures ∙ ap run_of (ap Ok c.in-Packed.is) in
     omega (arith, ran_packed _ _ _ _ packed-run)
 
 pub loop-i-smaller : goal.loop-i-smaller
 loop-i-smaller c =
-    let packed-run = sym c.run_at-run.ensures ∙ c.in-Packed.is in
+    let packed-run = sym c.in-Ok.ensures ∙ ap run_of (ap Ok c.in-Packed.is) in
     omega (arith, ran_packed _ _ _ _ packed-run)
 
 pub loop-i-preserved : goal.loop-i-preserved
 loop-i-preserved c =
-    let packed-run = sym c.run_at-run.ensures ∙ c.in-Packed.is in
+    let packed-run = sym c.in-Ok.ensures ∙ ap run_of (ap Ok c.in-Packed.is) in
     let a = c.args in
     let ran = ran_packed _ _ _ _ packed-run in (
       omega arith,
@@ -102,11 +104,11 @@ loop-i-preserved c =
           c.min.ensures c.mark_body.ensures),
     )
 
-pub returns-in-Refused : goal.returns-in-Refused
-returns-in-Refused c =
+pub returns-in_default : goal.returns-in_default
+returns-in_default c =
     sym
     (on_refused _ (marks (ranged c.args.range)) _ _ _ (search rules)
-    c.loop-i.invariant.2 (sym c.run_at-run.ensures ∙ c.in-Refused.is))
+    c.loop-i.invariant.2 (sym c.in_default.ensures))
 
 pub returns : goal.returns
 returns c =

@@ -1,14 +1,16 @@
--- `dictionary_indexes::large::runs_fault` meets its contract. The loop's invariant: the code is what judging on
+-- `dictionary_indexes::large::judge_runs` meets its contract. The loop's invariant: the code is what judging on
 -- from here gives, and what was found with what going on finds is what the pass finds. Each run has an entry, so
 -- fewer are left with each turn.
-use mathlib.Core.Path.{refl, sym, ◌∙◌}
+use mathlib.Core.Path.{refl, sym, ap, ◌∙◌}
 use mathlib.Core.Bool.{false}
 use Prim.Native.Nat.{◌-◌}
 use native.Mathlib.Omega.{arith}
 use lib.Dec.{leb}
 use borrow.Author.Rules.{rules}
 use borrow.Author.Tests.{lt-ltb, le-ltb}
-use Rattle.answers.specs.Laws.{then_found}
+use Rattle.std.specs.Prelude.{Ok}
+use Rattle.rules.specs.Runs.{run_of}
+use Rattle.answers.specs.Laws.{then_found, passed_up}
 use Rattle.runs_read.specs.Parts.{body-fits}
 use Rattle.runs_read.specs.RunRead.{ran_repeated, ran_packed}
 use Rattle.runs_read.specs.Walks.{on_end}
@@ -17,7 +19,7 @@ use Rattle.runs_walk.specs.CountedTurns.{begins, on_repeated, on_packed, ends}
 use Rattle.dictionary_indexes.specs.SomeEntry.{seeks, sought-pass, seeks-same, seeks-body}
 use Rattle.dictionary_indexes.specs.SomeEntry.{judging-begins, judging-repeated, judging-packed}
 use Rattle.dictionary_indexes.specs.SomeEntry.{judging-refused, then_sought}
-use Rattle.dictionary_indexes.proofs.large.runs_fault.Goals as goal
+use Rattle.dictionary_indexes.proofs.large.judge_runs.Goals as goal
 
 pub loop-i-init : goal.loop-i-init
 loop-i-init c =
@@ -30,17 +32,17 @@ loop-i-init c =
 
 pub overflow_add-i : goal.overflow_add-i
 overflow_add-i c =
-    let repeated-run = sym c.run_at-run.ensures ∙ c.in-Repeated.is in
+    let repeated-run = sym c.in_ok-run.ensures ∙ ap run_of (ap Ok c.in-Repeated.is) in
     omega (arith, ran_repeated _ _ _ _ repeated-run)
 
 pub loop-i-smaller-in-Repeated : goal.loop-i-smaller-in-Repeated
 loop-i-smaller-in-Repeated c =
-    let repeated-run = sym c.run_at-run.ensures ∙ c.in-Repeated.is in
+    let repeated-run = sym c.in_ok-run.ensures ∙ ap run_of (ap Ok c.in-Repeated.is) in
     omega (arith, ran_repeated _ _ _ _ repeated-run)
 
 pub loop-i-preserved-in-Repeated : goal.loop-i-preserved-in-Repeated
 loop-i-preserved-in-Repeated c =
-    let repeated-run = sym c.run_at-run.ensures ∙ c.in-Repeated.is in
+    let repeated-run = sym c.in_ok-run.ensures ∙ ap run_of (ap Ok c.in-Repeated.is) in
     let a = c.args in
     let ran = ran_repeated _ _ _ _ repeated-run in (
       omega arith,
@@ -53,12 +55,12 @@ loop-i-preserved-in-Repeated c =
 
 pub overflow_mul-groups : goal.overflow_mul-groups
 overflow_mul-groups c =
-    let packed-run = sym c.run_at-run.ensures ∙ c.in-Packed.is in
+    let packed-run = sym c.in_ok-run.ensures ∙ ap run_of (ap Ok c.in-Packed.is) in
     omega (arith, ran_packed _ _ _ _ packed-run)
 
 pub some_packed-large-requires : goal.some_packed-large-requires
 some_packed-large-requires c =
-    let packed-run = sym c.run_at-run.ensures ∙ c.in-Packed.is in
+    let packed-run = sym c.in_ok-run.ensures ∙ ap run_of (ap Ok c.in-Packed.is) in
     let ran = ran_packed _ _ _ _ packed-run in (
       search rules,
       omega arith,
@@ -74,22 +76,22 @@ some_packed-large-requires c =
 
 pub overflow_mul-i : goal.overflow_mul-i
 overflow_mul-i c =
-    let packed-run = sym c.run_at-run.ensures ∙ c.in-Packed.is in
+    let packed-run = sym c.in_ok-run.ensures ∙ ap run_of (ap Ok c.in-Packed.is) in
     omega (arith, ran_packed _ _ _ _ packed-run)
 
 pub overflow_add-i-in-Packed : goal.overflow_add-i-in-Packed
 overflow_add-i-in-Packed c =
-    let packed-run = sym c.run_at-run.ensures ∙ c.in-Packed.is in
+    let packed-run = sym c.in_ok-run.ensures ∙ ap run_of (ap Ok c.in-Packed.is) in
     omega (arith, ran_packed _ _ _ _ packed-run)
 
 pub loop-i-smaller : goal.loop-i-smaller
 loop-i-smaller c =
-    let packed-run = sym c.run_at-run.ensures ∙ c.in-Packed.is in
+    let packed-run = sym c.in_ok-run.ensures ∙ ap run_of (ap Ok c.in-Packed.is) in
     omega (arith, ran_packed _ _ _ _ packed-run)
 
 pub loop-i-preserved : goal.loop-i-preserved
 loop-i-preserved c =
-    let packed-run = sym c.run_at-run.ensures ∙ c.in-Packed.is in
+    let packed-run = sym c.in_ok-run.ensures ∙ ap run_of (ap Ok c.in-Packed.is) in
     let a = c.args in
     let ran = ran_packed _ _ _ _ packed-run in (
       omega arith,
@@ -101,12 +103,12 @@ loop-i-preserved c =
           c.min.ensures c.some_packed-large.ensures refl),
     )
 
-pub returns-in-Refused : goal.returns-in-Refused
-returns-in-Refused c =
+pub returns-in_err-run : goal.returns-in_err-run
+returns-in_err-run c =
     let a = c.args in
-    sym
-    (judging-refused a.w a.n a.page.now (search rules) c.loop-i.invariant.2 _
-    (sym c.run_at-run.ensures ∙ c.in-Refused.is))
+    rw (passed_up _ _ c.from_residual.ensures)
+    (sym
+    (judging-refused a.w a.n a.page.now (search rules) c.loop-i.invariant.2 _ (sym c.in_err-run.ensures)))
 
 pub returns-then-at-page : goal.returns-then-at-page
 returns-then-at-page c =
@@ -114,11 +116,21 @@ returns-then-at-page c =
     (then_found _ _ 6 (on_end judge c.loop-i.invariant.2 (search rules) ∙ rw (lt-ltb _ _ c.if-at-page.true))
     (λ z. omega arith))
 
+-- what was found is what the pass finds
+pub returns-then-large : goal.returns-then-large
+returns-then-large c =
+    let a = c.args in
+    let found =
+    then_sought a.w a.n a.page.now (leb a.limit) c.loop-i.large
+    (on_end judge c.loop-i.invariant.2 (search rules) ∙ rw (le-ltb _ _ c.if-at-page.false))
+    (ends _ (seeks (leb a.limit)) _ _ _ c.loop-i.invariant.3 (search rules)) in
+    sym (rw c.if-large.true at found)
+
 pub returns : goal.returns
 returns c =
     let a = c.args in
-    c.large_fault-late.ensures
-    ∙ sym
-    (then_sought a.w a.n a.page.now (leb a.limit) c.loop-i.large
+    let found =
+    then_sought a.w a.n a.page.now (leb a.limit) c.loop-i.large
     (on_end judge c.loop-i.invariant.2 (search rules) ∙ rw (le-ltb _ _ c.if-at-page.false))
-    (ends _ (seeks (leb a.limit)) _ _ _ c.loop-i.invariant.3 (search rules)))
+    (ends _ (seeks (leb a.limit)) _ _ _ c.loop-i.invariant.3 (search rules)) in
+    sym (rw c.if-large.false at found)

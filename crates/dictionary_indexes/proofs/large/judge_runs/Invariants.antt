@@ -1,4 +1,4 @@
--- `dictionary_indexes::large::runs_fault` meets its contract. The loop's invariant: the code is what judging on
+-- `dictionary_indexes::large::judge_runs` meets its contract. The loop's invariant: the code is what judging on
 -- from here gives, and what was found with what going on finds is what the pass finds. Each run has an entry, so
 -- fewer are left with each turn.
 use mathlib.Core.Path.{◌≡◌}
@@ -7,7 +7,7 @@ use lib.Dec.{leb}
 use lib.ListN.{length}
 use Rattle.runs_walk.specs.CountedTurns.{onward}
 use Rattle.dictionary_indexes.specs.SomeEntry.{seeks, sought, judging}
-use Rattle.dictionary_indexes.proofs.large.runs_fault.Given as goal
+use Rattle.dictionary_indexes.proofs.large.judge_runs.Given as goal
 
 abbrev pub invariant-loop-i : goal.invariant-loop-i
 invariant-loop-i l =

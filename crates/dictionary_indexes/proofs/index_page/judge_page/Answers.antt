@@ -1,4 +1,4 @@
--- `dictionary_indexes::index_page::page_fault` meets its contract: the width byte first, and then the stream behind
+-- `dictionary_indexes::index_page::judge_page` meets its contract: the width byte first, and then the stream behind
 -- it, whose indexes are looked at where one can be too large.
 use mathlib.Core.Path.{sym, ap, ◌∙◌}
 use mathlib.Core.List.{List}
@@ -15,7 +15,7 @@ use Rattle.words.specs.Bits.{one_shl}
 use Rattle.words.specs.Puts.{part_rest}
 use Rattle.dictionary_indexes.specs.IndexPage.{width_of, indexes-none, indexes-some}
 use Rattle.dictionary_indexes.specs.IndexFaults.{none-large, page-judged}
-use Rattle.dictionary_indexes.proofs.index_page.page_fault.Goals as goal
+use Rattle.dictionary_indexes.proofs.index_page.judge_page.Goals as goal
 
 pub returns-then-page-eq0 : goal.returns-then-page-eq0
 returns-then-page-eq0 c =
@@ -40,7 +40,7 @@ returns-then-width-limit c =
     let w = width_of a.page.now in
     let some : 0 < length a.page.now = omega arith in
     let all : 2 ^ w ≤ a.limit = rw (one_shl 64 w (omega arith)) at c.if-width-limit.true in
-    rw (part_rest a.page.now 1) at c.stream_fault.ensures
+    rw (part_rest a.page.now 1) at c.judge_stream.ensures
     ∙ sym
     (then_last _ _ (none-large a.limit a.n a.page.now all)
     ∙ ap stream_fault (indexes-some a.n a.page.now some) ∙ rw (le-ltb 32 w c.if-width-gt-MAX_WIDTH.false))
@@ -50,7 +50,7 @@ returns c =
     let a = c.args in
     let w = width_of a.page.now in
     let some : 0 < length a.page.now = omega arith in
-    c.runs_fault.ensures
+    c.judge_runs.ensures
     ∙ ap
     (λ (l : List ℕ). stream_fault (read w a.n l) then faulty
     (some_below a.n (λ i. leb a.limit (stream_entry w (read w a.n l) i))) 15)

@@ -1,7 +1,7 @@
--- `dictionary_scan::judging::dictionary_fault` meets its contract: the length first, then the values' order.
+-- `dictionary_scan::judging::judge_dictionary` meets its contract: the length first, then the values' order.
 use borrow.Author.Tests.{eq-eqb, ne_eqb, lt-ltb, le-ltb}
 use Rattle.rules.specs.Dictionary.{dictionary_fault}
-use Rattle.dictionary_scan.proofs.judging.dictionary_fault.Goals as goal
+use Rattle.dictionary_scan.proofs.judging.judge_dictionary.Goals as goal
 
 pub returns-then-dict-ne0 : goal.returns-then-dict-ne0
 unfolding dictionary_fault
