@@ -15,23 +15,13 @@ fn is_before(x: i32, z: i64, equal: bool) -> bool
     if equal { x <= z } else { x < z }
 }
 
-// How many values are below z, or where `equal` counts too at most z: they ascend, so half of those left
-// are passed over at a time.
+// How many values are below z, or where `equal` counts too at most z: they ascend, so those are the first.
 fn place_of(dict: &[u8], z: i64, equal: bool) -> usize
     requires { dictionary_fault dict.now ≡ 0 }
     ensures { result ≡ place_of equal dict.now z }
 {
-    let mut from: usize = 0;
-    let mut to = dict.len() / 4;
-    while from < to {
-        let middle = (from + to) / 2;
-        if is_before(value_at(dict, middle), z, equal) {
-            from = middle + 1;
-        } else {
-            to = middle;
-        }
-    }
-    from
+    let (values, _) = dict.as_chunks::<4>();
+    values.partition_point(|value| is_before(value_at(value, 0), z, equal))
 }
 
 // The indexes whose values the band selects: from the first value that is not below its low end, up to

@@ -14,7 +14,8 @@ use Rattle.rules.specs.RunWriter.{equal_to, stretch, groups_of}
 equal_prefix : (x : ℕ) (s : List ℕ) → prefix_len (λ y. eqb y x) s ≡ equal_to x s
 unfolding equal_to
 equal_prefix x [] = refl
-equal_prefix x (y ∷ s) = ap (λ (n : ℕ). cond (eqb y x) (1 + n) 0) (equal_prefix x s) ∙ ap (λ (n : ℕ). cond (eqb y x) n 0) (omega arith)
+equal_prefix x (y ∷ s) =
+    ap (λ (n : ℕ). cond (eqb y x) (1 + n) 0) (equal_prefix x s) ∙ ap (λ (n : ℕ). cond (eqb y x) n 0) (omega arith)
 
 module _ (s : List ℕ) where
   -- ---- a stretch

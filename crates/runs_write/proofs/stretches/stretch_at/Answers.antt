@@ -17,10 +17,10 @@ returns c =
     let s = drop c.args.p c.args.entries.now in
     let first = c.in-Some.first.now in
     let found = c.in-Some.ensures.lookup in
+    let rest = c.iter.ensures.rest ∙ take_rest c.args.entries.now c.args.p in
     count_from_yields_List c.take_while.result _ c.count.ensures.ran
     (YieldsList-from_take_while _ (λ x. nat_eq x first)
-    (YieldsList-from_slice s (ap iter_rest c.take_while.ensures.source ∙ c.iter.ensures.rest ∙ take_rest c.args.entries.now c.args.p))
-    c.take_while.ensures.closure
-    c.take_while.ensures.done (λ x b q k. search (rules, tests)))
+    (YieldsList-from_slice s (ap iter_rest c.take_while.ensures.source ∙ rest))
+    c.take_while.ensures.closure c.take_while.ensures.done (λ x b q k. search (rules, tests)))
     ∙ length-prefix_len _ s
     ∙ stretch_prefix c.args.entries.now c.args.p first found.3.0 (found.4 (omega arith) 0)
