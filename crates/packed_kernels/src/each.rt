@@ -1,10 +1,10 @@
 // Entry by entry, at any width: each through a window of eight bytes that ends within the page.
 ghost use Rattle.std.specs.Prelude.{◌≡◌, ◌+◌, ◌*◌, ◌/◌, ◌<◌, ◌≤◌, length};
-ghost use Rattle.rules.specs.Bits.{flag, word, put, field};
+ghost use Rattle.rules.specs.Bits.{flag, field};
 ghost use Rattle.rules.specs.Bits.Order.{low_first};
-ghost use Rattle.compare.specs.Range.{inside, Bounded, Usable};
-ghost use Rattle.packed_kernels.specs.Selected.{selected, ranging};
+ghost use Rattle.compare.specs.Range.{inside, Bounded};
 
+use crate::kernels::Kernel;
 use std::num::wrapping_sub_u32;
 use words::entries::entry_in;
 
@@ -27,43 +27,22 @@ fn entry_bit(page: &[u8], at: usize, b: usize, w: usize, low: u32, span: u32) ->
     inside_bit(entry_in(page, at, b, w), low, span)
 }
 
-// And of the eight entries from byte `at` on, a bit for each.
-fn eight(page: &[u8], at: usize, w: usize, low: u32, span: u32) -> u8
-    requires { (w ≤ 32) × (at + w + 8 ≤ length page.now) × Bounded low span }
-    ensures { result
-        ≡ word 8
-        (λ j. inside low (low + span) (field low_first page.now (8 * at + j * w) w)) }
-{
-    entry_bit(page, at, 0, w, low, span)
-        + entry_bit(page, at, w, w, low, span) * 2
-        + entry_bit(page, at, 2 * w, w, low, span) * 4
-        + entry_bit(page, at, 3 * w, w, low, span) * 8
-        + entry_bit(page, at, 4 * w, w, low, span) * 16
-        + entry_bit(page, at, 5 * w, w, low, span) * 32
-        + entry_bit(page, at, 6 * w, w, low, span) * 64
-        + entry_bit(page, at, 7 * w, w, low, span) * 128
-}
+pub struct Each;
 
-// m groups to m bytes of the bitmap. `flip` is 255 where the entries outside are wanted.
-pub fn select_each(
-    page: &[u8],
-    bitmap: &mut [u8],
-    m: usize,
-    w: usize,
-    low: u32,
-    span: u32,
-    flip: u8,
-)
-    requires { (w ≤ 32) × (m * w + 8 ≤ length page.now) × (m ≤ length bitmap.old)
-        × Usable low span flip }
-    ensures { bitmap.new
-        ≡ put bitmap.old 0 (selected page.now (8 * m) w (ranging low span flip)) }
-{
-    let mut g: usize = 0;
-    let mut at: usize = 0;
-    while g < m {
-        bitmap[g] = eight(page, at, w, low, span) ^ flip;
-        at += w;
-        g += 1;
+impl Kernel for Each {
+    ghost takes = { λ w low span. (w ≤ 32) × Bounded low span };
+
+    ghost behind = { λ _. 8 };
+
+    // And of the eight entries from byte `at` on, a bit for each.
+    fn eight(page: &[u8], at: usize, w: usize, low: u32, span: u32) -> u8 {
+        entry_bit(page, at, 0, w, low, span)
+            + entry_bit(page, at, w, w, low, span) * 2
+            + entry_bit(page, at, 2 * w, w, low, span) * 4
+            + entry_bit(page, at, 3 * w, w, low, span) * 8
+            + entry_bit(page, at, 4 * w, w, low, span) * 16
+            + entry_bit(page, at, 5 * w, w, low, span) * 32
+            + entry_bit(page, at, 6 * w, w, low, span) * 64
+            + entry_bit(page, at, 7 * w, w, low, span) * 128
     }
 }

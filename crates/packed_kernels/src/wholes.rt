@@ -1,12 +1,12 @@
 // Entries of 32 bits, four bytes each: no shift and no mask, so that the compiler takes several in one
 // instruction.
 ghost use Rattle.std.specs.Prelude.{◌≡◌, ◌+◌, ◌*◌, ◌<◌, ◌≤◌, length};
-ghost use Rattle.rules.specs.Bits.{flag, word, put, field};
+ghost use Rattle.rules.specs.Bits.{flag, field};
 ghost use Rattle.rules.specs.Bits.Order.{low_first};
-ghost use Rattle.compare.specs.Range.{inside, Bounded, Usable};
-ghost use Rattle.packed_kernels.specs.Selected.{selected, ranging};
+ghost use Rattle.compare.specs.Range.{inside, Bounded};
 
 use crate::each::inside_bit;
+use crate::kernels::Kernel;
 use words::loads::load4;
 
 // Whether entry k from byte `at` on lies from low to low + span: 1 or 0.
@@ -19,35 +19,22 @@ fn entry_bit(page: &[u8], at: usize, k: usize, low: u32, span: u32) -> u8
     inside_bit(load4(page, at + 4 * k), low, span)
 }
 
-// The same of the eight entries from byte `at` on, a bit for each.
-fn eight(page: &[u8], at: usize, low: u32, span: u32) -> u8
-    requires { (at + 32 ≤ length page.now) × Bounded low span }
-    ensures { result
-        ≡ word 8
-        (λ j. inside low (low + span) (field low_first page.now (8 * at + j * 32) 32)) }
-{
-    entry_bit(page, at, 0, low, span)
-        + entry_bit(page, at, 1, low, span) * 2
-        + entry_bit(page, at, 2, low, span) * 4
-        + entry_bit(page, at, 3, low, span) * 8
-        + entry_bit(page, at, 4, low, span) * 16
-        + entry_bit(page, at, 5, low, span) * 32
-        + entry_bit(page, at, 6, low, span) * 64
-        + entry_bit(page, at, 7, low, span) * 128
-}
+pub struct Wholes;
 
-// m groups to m bytes of the bitmap, of width 32.
-pub fn select_wholes(page: &[u8], bitmap: &mut [u8], m: usize, low: u32, span: u32, flip: u8)
-    requires { (m * 32 ≤ length page.now) × (m ≤ length bitmap.old) × Usable low span flip }
-    ensures { bitmap.new
-        ≡ put bitmap.old 0
-        (selected page.now (8 * m) 32 (ranging low span flip)) }
-{
-    let mut g: usize = 0;
-    let mut at: usize = 0;
-    while g < m {
-        bitmap[g] = eight(page, at, low, span) ^ flip;
-        at += 32;
-        g += 1;
+impl Kernel for Wholes {
+    ghost takes = { λ w low span. (w ≡ 32) × Bounded low span };
+
+    ghost behind = { λ _. 0 };
+
+    // The same of the eight entries from byte `at` on, a bit for each.
+    fn eight(page: &[u8], at: usize, _w: usize, low: u32, span: u32) -> u8 {
+        entry_bit(page, at, 0, low, span)
+            + entry_bit(page, at, 1, low, span) * 2
+            + entry_bit(page, at, 2, low, span) * 4
+            + entry_bit(page, at, 3, low, span) * 8
+            + entry_bit(page, at, 4, low, span) * 16
+            + entry_bit(page, at, 5, low, span) * 32
+            + entry_bit(page, at, 6, low, span) * 64
+            + entry_bit(page, at, 7, low, span) * 128
     }
 }

@@ -1,4 +1,4 @@
--- `packed_kernels::twos::eight` meets its contract: four times two tests, one in each slot, brought side by side.
+-- `packed_kernels::twos::Twos::eight` meets its contract: four times two tests, one in each slot, brought side by side.
 use Rattle.std.proofs.Common.{◌≡◌, ℕ, ◌+◌, ◌*◌, Bool, ◌∙◌, ap₂, arith}
 use Rattle.rules.specs.Bits.{flag, field}
 use Rattle.rules.specs.Bits.Order.{low_first}
@@ -6,8 +6,8 @@ use Rattle.compare.specs.Range.{inside}
 use Rattle.packed_kernels.specs.Slots.{slots}
 use Rattle.packed_kernels.specs.Windows.{two_from}
 use Rattle.packed_kernels.specs.Folded.{second_fits, second_tests}
-use Rattle.packed_kernels.proofs.twos.eight.Goals as goal
-use Rattle.packed_kernels.proofs.twos.eight.Goals.{After-two-4}
+use Rattle.packed_kernels.proofs.twos.TwosKernel.eight.Goals as goal
+use Rattle.packed_kernels.proofs.twos.TwosKernel.eight.Goals.{After-two-4}
 
 -- does entry j lie from low to low + span
 abbrev test : After-two-4 → ℕ → Bool

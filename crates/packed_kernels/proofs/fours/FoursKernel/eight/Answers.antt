@@ -1,8 +1,8 @@
--- `packed_kernels::fours::eight` meets its contract: four entries in a window, and four in the next.
+-- `packed_kernels::fours::Fours::eight` meets its contract: four entries in a window, and four in the next.
 use Rattle.std.proofs.Common.{ℕ, ◌+◌, ◌*◌, ◌/◌, ◌%◌, ◌^◌, sym, ap, ◌∙◌, ap₂, div-one, arith}
 use Rattle.words.specs.Joined.{Small}
 use Rattle.packed_kernels.specs.Windows.{window_tests, two_fours}
-use Rattle.packed_kernels.proofs.fours.eight.Goals as goal
+use Rattle.packed_kernels.proofs.fours.FoursKernel.eight.Goals as goal
 
 pub returns : goal.returns
 returns c =

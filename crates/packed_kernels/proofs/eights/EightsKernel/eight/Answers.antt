@@ -1,8 +1,8 @@
--- `packed_kernels::eights::eight` meets its contract: eight entries of at most eight bits lie in a window of eight
+-- `packed_kernels::eights::Eights::eight` meets its contract: eight entries of at most eight bits lie in a window of eight
 -- bytes.
 use Rattle.std.proofs.Common.{◌+◌, sym, ◌∙◌, div-one, arith}
 use Rattle.packed_kernels.specs.Windows.{window_tests}
-use Rattle.packed_kernels.proofs.eights.eight.Goals as goal
+use Rattle.packed_kernels.proofs.eights.EightsKernel.eight.Goals as goal
 
 pub returns : goal.returns
 returns c =

@@ -1,16 +1,17 @@
--- `packed_kernels::wholes::eight` meets its contract: eight digits, each with its weight.
+-- `packed_kernels::wholes::Wholes::eight` meets its contract: eight digits, each with its weight.
 use Rattle.std.proofs.Common.{◌+◌, ◌*◌, arith}
 use Rattle.rules.specs.Bits.{field}
 use Rattle.rules.specs.Bits.Order.{low_first}
 use Rattle.compare.specs.Range.{inside}
 use Rattle.packed_kernels.specs.GroupByGroup.{eight_flags}
-use Rattle.packed_kernels.proofs.wholes.eight.Goals as goal
+use Rattle.packed_kernels.proofs.wholes.WholesKernel.eight.Goals as goal
 
 pub returns : goal.returns
 returns c =
     let a = c.args in
-    omega (
+    rw c.requires.0.0
+    (omega (
       arith,
       eight_flags
           (λ j. inside a.low (a.low + a.span) (field low_first a.page.now (8 * a.at + j * 32) 32)),
-    )
+    ))
