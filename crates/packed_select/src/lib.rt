@@ -18,9 +18,10 @@ fn groups_within(len: usize, w: usize, q: usize) -> usize
     ensures { (result * w + 8 ≤ len) × (len ≤ result * w + w + 8) × (result ≤ q) }
 {
     if q * w + 8 <= len {
-        return q;
+        q
+    } else {
+        ((len - 8) / w).min(q)
     }
-    ((len - 8) / w).min(q)
 }
 
 // The groups, of q, whose windows end within the page: how many they are.

@@ -16,7 +16,7 @@ overflow_add-q c =
 pub returns-then-q-w : goal.returns-then-q-w
 returns-then-q-w c = omega arith
 
-pub returns : goal.returns
-returns c =
+pub returns-else-q-w : goal.returns-else-q-w
+returns-else-q-w c =
     let a = c.args in
     rw c.min.ensures (front-size a.len a.w a.q (omega arith) (omega arith) (omega arith))

@@ -18,11 +18,8 @@ use Rattle.packed_entries.proofs.chunks.pack_chunks.Goals as goal
 
 pub loop-j-init : goal.loop-j-init
 loop-j-init c =
-    let a = c.args in (
-      omega arith,
-      omega arith,
-      rw (zero-mul a.k, packed_none low_first a.w [] (zero-mul a.w)) (put-none a.part.now 0),
-    )
+    let a = c.args in
+    rw (zero-mul a.k, packed_none low_first a.w [] (zero-mul a.w)) (put-none a.part.now 0)
 
 pub overflow_mul-j : goal.overflow_mul-j
 overflow_mul-j c =
@@ -67,22 +64,19 @@ loop-j-preserved c =
     let xs = drop a.i a.entries.now in
     let small = small-drop a.w a.i a.entries.now (small_of a.w a.entries.now c.requires.5) in
     let there : l.j * a.k + a.k ≤ length xs = rw length-drop
-    (omega (arith, place-within a.k l.j a.c (omega arith))) in (
-      omega arith,
-      laid.auto.out ∙ l.invariant.1,
-      laid.ensures
-          ∙ rw (
-            l.invariant.2,
-            c.chunk.ensures,
-            ← (drop-drop (l.j * a.k) a.i a.entries.now),
-            ← (mul_assoc l.j a.k a.w),
-            add-mul l.j 1 a.k,
-            one-mul,
-          )
-          (laid_more a.part.now xs a.w (l.j * a.k) a.k there small),
+    (omega (arith, place-within a.k l.j a.c (omega arith))) in
+    laid.ensures
+    ∙ rw (
+      l.invariant,
+      c.chunk.ensures,
+      ← (drop-drop (l.j * a.k) a.i a.entries.now),
+      ← (mul_assoc l.j a.k a.w),
+      add-mul l.j 1 a.k,
+      one-mul,
     )
+    (laid_more a.part.now xs a.w (l.j * a.k) a.k there small)
 
 pub returns : goal.returns
 returns c =
     let all : c.loop-j.j ≡ c.args.c = omega arith in
-    rw (← all) c.loop-j.invariant.2
+    rw (← all) c.loop-j.invariant

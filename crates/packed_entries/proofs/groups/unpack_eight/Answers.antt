@@ -3,7 +3,6 @@ use mathlib.Core.Path.{ap, ◌∙◌}
 use Prim.Native.Nat.{ℕ, ◌+◌, ◌*◌}
 use native.Mathlib.Nat.{mul-le-mul_right}
 use native.Mathlib.Omega.{arith}
-use lib.ListN.{length-set}
 use Rattle.rules.specs.Bits.{field, put, tabulate}
 use Rattle.rules.specs.Bits.Order.{low_first}
 use Rattle.words.specs.Tabulated.{tabulate-none, put-tabulate_at}
@@ -11,11 +10,8 @@ use Rattle.packed_entries.proofs.groups.unpack_eight.Goals as goal
 
 pub loop-j-init : goal.loop-j-init
 loop-j-init c =
-    let a = c.args in (
-      omega arith,
-      omega arith,
-      tabulate-none a.entries.now a.i (λ k. field low_first a.page.now (8 * a.at + k * a.w) a.w),
-    )
+    let a = c.args in
+    tabulate-none a.entries.now a.i (λ k. field low_first a.page.now (8 * a.at + k * a.w) a.w)
 
 pub overflow_mul-j : goal.overflow_mul-j
 overflow_mul-j c =
@@ -33,17 +29,14 @@ pub loop-j-preserved : goal.loop-j-preserved
 loop-j-preserved c =
     let a = c.args in
     let l = c.loop-j in
-    let f : ℕ → ℕ = λ k. field low_first a.page.now (8 * a.at + k * a.w) a.w in (
-      omega arith,
-      simp length-set l.invariant.1,
-      rw (l.invariant.2, c.entry_in.ensures) (put-tabulate_at a.entries.now a.i l.j f (omega arith)),
-    )
+    let f : ℕ → ℕ = λ k. field low_first a.page.now (8 * a.at + k * a.w) a.w in
+    rw (l.invariant, c.entry_in.ensures) (put-tabulate_at a.entries.now a.i l.j f (omega arith))
 
 pub returns : goal.returns
 returns c =
     let a = c.args in
     let l = c.loop-j in
-    l.invariant.2
+    l.invariant
     ∙ ap
     (λ (n : ℕ). put a.entries.now a.i
     (tabulate n (λ k. field low_first a.page.now (8 * a.at + k * a.w) a.w))) (omega arith)

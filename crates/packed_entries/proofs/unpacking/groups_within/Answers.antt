@@ -19,7 +19,7 @@ nonzero_div-result c =
     let a = c.args in
     omega (arith, fewer-groups a.len a.w a.q (omega arith) (omega arith))
 
-pub returns : goal.returns
-returns c =
+pub returns-else-q-w : goal.returns-else-q-w
+returns-else-q-w c =
     let a = c.args in
     omega (arith, fewer-groups a.len a.w a.q (omega arith) (omega arith))
