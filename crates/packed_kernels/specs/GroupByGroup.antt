@@ -1,6 +1,6 @@
 -- A group more: eight tests are a byte, turned or not.
 use Rattle.std.specs.Prelude.{◌≡◌, ℕ, zero, suc, ◌+◌, ◌*◌, ◌%◌, ◌<◌, Bool, true, false, ltb, List, length, bit_and, bit_xor, nat_lt, slice_set, refl}
-use Rattle.std.proofs.Common.{sym, ap, ap₂, ◌∙◌, add-mul, mul_assoc, zero-mul, one-mul, mod-eq_of_lt, arith, lt-ltb}
+use Rattle.std.proofs.Common.{ap, ap₂, ◌∙◌, add-mul, mul_assoc, mod-eq_of_lt, arith, lt-ltb}
 use Rattle.std.specs.Int.Bits.{xor_zero_r, xor_add_and}
 use Rattle.std.proofs.lemmas.Nat.{and_mask}
 use mir.Val.{bool_byte}
@@ -20,16 +20,6 @@ pub eight_flags : (test : ℕ → Bool)
     + flag (test 5) * 32 + flag (test 6) * 64 + flag (test 7) * 128 ≡ word 8 test
 unfolding word
 eight_flags test = omega arith
-
--- and tests at the bits 0, w, 2 × w, .. one of tests at j × w
-pub group_flags : (test : ℕ → Bool) (w : ℕ)
-    → flag (test 0) + flag (test w) * 2 + flag (test (2 * w)) * 4 + flag (test (3 * w)) * 8
-    + flag (test (4 * w)) * 16 + flag (test (5 * w)) * 32 + flag (test (6 * w)) * 64 + flag (test (7 * w)) * 128
-    ≡ word 8 (λ j. test (j * w))
-group_flags test w =
-    let e : flag (test 0) ≡ flag (test (0 * w)) = ap (λ (k : ℕ). flag (test k)) (sym (zero-mul w)) in
-    let f : flag (test w) ≡ flag (test (1 * w)) = ap (λ (k : ℕ). flag (test k)) (sym (one-mul w)) in
-    rw (e, f) (eight_flags (λ j. test (j * w)))
 
 -- a byte of tests, or its complement
 turned_byte : (f : ℕ → Bool) (outside : Bool)

@@ -8,12 +8,11 @@ ghost use Rattle.rules.specs.Bits.{put};
 ghost use Rattle.compare.specs.Range.{Usable};
 ghost use Rattle.packed_kernels.specs.Selected.{selected, ranging};
 
-use packed_kernels::each::Each;
 use packed_kernels::eights::Eights;
 use packed_kernels::fours::Fours;
 use packed_kernels::kernels::select;
+use packed_kernels::singly::{Singly, Whole, Window};
 use packed_kernels::twos::Twos;
-use packed_kernels::wholes::Wholes;
 
 // m groups of eight entries to m bytes of the bitmap. `flip` is 255 where the entries outside are wanted.
 pub fn select_groups(
@@ -31,7 +30,7 @@ pub fn select_groups(
         ≡ put bitmap.old 0 (selected page.now (8 * m) w (ranging low span flip)) }
 {
     match w {
-        0 => select::<Each>(page, bitmap, m, 0, low, span, flip),
+        0 => select::<Singly<Window>>(page, bitmap, m, 0, low, span, flip),
         1 => select::<Eights>(page, bitmap, m, 1, low, span, flip),
         2 => select::<Eights>(page, bitmap, m, 2, low, span, flip),
         3 => select::<Eights>(page, bitmap, m, 3, low, span, flip),
@@ -62,8 +61,8 @@ pub fn select_groups(
         28 => select::<Twos>(page, bitmap, m, 28, low, span, flip),
         29 => select::<Twos>(page, bitmap, m, 29, low, span, flip),
         30 => select::<Twos>(page, bitmap, m, 30, low, span, flip),
-        31 => select::<Each>(page, bitmap, m, 31, low, span, flip),
-        32 => select::<Wholes>(page, bitmap, m, 32, low, span, flip),
-        _ => select::<Each>(page, bitmap, m, w, low, span, flip),
+        31 => select::<Singly<Window>>(page, bitmap, m, 31, low, span, flip),
+        32 => select::<Singly<Whole>>(page, bitmap, m, 32, low, span, flip),
+        _ => select::<Singly<Window>>(page, bitmap, m, w, low, span, flip),
     }
 }

@@ -1,11 +1,11 @@
--- `packed_kernels::each::inside_bit` meets its contract: a difference that wraps is at most span just inside the
+-- `packed_kernels::singly::inside_bit` meets its contract: a difference that wraps is at most span just inside the
 -- range.
 use Rattle.std.proofs.Common.{◌≡◌, ◌+◌, leb, ap, ◌∙◌, arith}
 use Rattle.rules.specs.Bits.{flag}
 use Rattle.words.specs.Bits.{flag_lt, byte_flag}
 use Rattle.compare.specs.Range.{inside}
 use Rattle.compare.specs.Inside.{by_difference}
-use Rattle.packed_kernels.proofs.each.inside_bit.Goals as goal
+use Rattle.packed_kernels.proofs.singly.inside_bit.Goals as goal
 
 pub returns : goal.returns
 returns c =

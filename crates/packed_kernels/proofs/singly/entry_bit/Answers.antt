@@ -1,13 +1,13 @@
--- `packed_kernels::each::entry_bit` meets its contract: the entry is read, and marked.
+-- `packed_kernels::singly::entry_bit` meets its contract: the entry is read, and marked.
 use Rattle.std.proofs.Common.{ℕ, ◌+◌, ap, ◌∙◌}
 use Rattle.rules.specs.Bits.{flag}
 use Rattle.compare.specs.Range.{inside}
-use Rattle.packed_kernels.proofs.each.entry_bit.Goals as goal
+use Rattle.packed_kernels.proofs.singly.entry_bit.Goals as goal
 
 pub returns : goal.returns
-returns c =
+returns g c =
     let a = c.args in record {
       told = c.inside_bit.ensures.told
-          ∙ ap (λ (x : ℕ). flag (inside a.low (a.low + a.span) x)) c.entry_in.ensures;
+          ∙ ap (λ (x : ℕ). flag (inside a.low (a.low + a.span) x)) c.entry.ensures;
       small = c.inside_bit.ensures.small;
     }
