@@ -13,13 +13,12 @@ pub fn page_fault(page: &[u8], width: u32, n: usize) -> u32
     let bits = n * width as usize;
     let bytes = (bits + 7) / 8;
     if page.len() < bytes {
-        return 5;
+        5
+    } else if bytes < page.len() {
+        6
+    } else if 0 < entry_any(page, bits, (8 * bytes - bits) as u32) {
+        7
+    } else {
+        0
     }
-    if bytes < page.len() {
-        return 6;
-    }
-    if 0 < entry_any(page, bits, (8 * bytes - bits) as u32) {
-        return 7;
-    }
-    0
 }
