@@ -12,8 +12,9 @@ use std::num::wrapping_sub_u32;
 use words::entries::entry_in;
 use words::loads::load4;
 
-// How one entry is read.
+// A way to read one entry.
 pub trait Single {
+    // The widths that it reads.
     ghost reads: { ℕ → Type 0 };
 
     // How many bytes behind a group its loads reach.
@@ -50,7 +51,7 @@ impl Single for Whole {
 }
 
 // Whether an entry lies from low to low + span: 1 or 0.
-pub fn inside_bit(x: u32, low: u32, span: u32) -> u8
+fn inside_bit(x: u32, low: u32, span: u32) -> u8
     requires { Bounded low span }
     ensures told { result ≡ flag (inside low (low + span) x) }
     ensures small { result < 2 }

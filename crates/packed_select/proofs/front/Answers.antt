@@ -18,9 +18,3 @@ returns-then-w-eq0 c =
     ])
     in
     record { within = none.0; written = none.1 }
-
-pub select_groups-requires : goal.select_groups-requires
-select_groups-requires c = omega (arith, c.groups_within-m.ensures)
-
-pub returns : goal.returns
-returns c = record { within = omega (arith, c.groups_within-m.ensures); written = cc }

@@ -1,9 +1,9 @@
 -- `packed_entries::chunks::pack_chunks` meets its contract: each turn lays k entries, as one number, behind those
 -- that are laid.
-use mathlib.Core.Path.{◌≡◌, ◌∙◌}
+use mathlib.Core.Path.{◌∙◌}
 use mathlib.Core.List.{[]}
 use Prim.Native.Nat.{◌+◌, ◌*◌, ◌≤◌}
-use native.Mathlib.Nat.{add-mul, mul_assoc, mul-le-mul, mul-pos, one-mul, zero-mul}
+use native.Mathlib.Nat.{add-mul, mul_assoc, mul-pos, one-mul, zero-mul}
 use native.Mathlib.Omega.{arith}
 use lib.ListN.{length, drop, length-drop}
 use lib.Seq.{drop-drop}
@@ -20,27 +20,6 @@ pub loop-j-init : goal.loop-j-init
 loop-j-init c =
     let a = c.args in
     rw (zero-mul a.k, packed_none low_first a.w [] (zero-mul a.w)) (put-none a.part.now 0)
-
-pub overflow_mul-j : goal.overflow_mul-j
-overflow_mul-j c =
-    let a = c.args in
-    let l = c.loop-j in
-    omega (arith, mul-le-mul {n₁ = l.j} {m₁ = a.k * a.w} {n₂ = 8} {m₂ = 56} (omega arith) (omega arith))
-
-pub overflow_mul-j-in-loop-j : goal.overflow_mul-j-in-loop-j
-overflow_mul-j-in-loop-j c =
-    let a = c.args in
-    omega (arith, place-within a.k c.loop-j.j a.c (omega arith))
-
-pub overflow_add-i : goal.overflow_add-i
-overflow_add-i c =
-    let a = c.args in
-    omega (arith, place-within a.k c.loop-j.j a.c (omega arith))
-
-pub chunk-requires : goal.chunk-requires
-chunk-requires c =
-    let a = c.args in
-    (omega arith, omega (arith, place-within a.k c.loop-j.j a.c (omega arith)), c.requires.5)
 
 pub append_at-requires : goal.append_at-requires
 append_at-requires c =
@@ -75,8 +54,3 @@ loop-j-preserved c =
       one-mul,
     )
     (laid_more a.part.now xs a.w (l.j * a.k) a.k there small)
-
-pub returns : goal.returns
-returns c =
-    let all : c.loop-j.j ≡ c.args.c = omega arith in
-    rw (← all) c.loop-j.invariant

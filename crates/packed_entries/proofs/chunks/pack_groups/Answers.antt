@@ -21,16 +21,6 @@ loop-g-init c =
     let a = c.args in
     rw (packed_none low_first a.w [] (zero-mul a.w)) (put-none a.page.now 0)
 
-pub slice_bounds-pack_chunks-count : goal.slice_bounds-pack_chunks-count
-slice_bounds-pack_chunks-count c =
-    let a = c.args in
-    omega (arith, place-within a.w c.loop-g.g a.m (omega arith))
-
-pub slice_bounds-pack_chunks-start : goal.slice_bounds-pack_chunks-start
-slice_bounds-pack_chunks-start c =
-    let a = c.args in
-    omega (arith, place-within a.w c.loop-g.g a.m (omega arith))
-
 pub pack_chunks-requires : goal.pack_chunks-requires
 pack_chunks-requires c =
     let a = c.args in
@@ -46,11 +36,6 @@ pack_chunks-requires c =
       rw (k.ensures.2, part_rest, length-drop) (omega arith),
     )
 
-pub overflow_mul-at : goal.overflow_mul-at
-overflow_mul-at c =
-    let a = c.args in
-    omega (arith, place-within a.w c.loop-g.g a.m (omega arith))
-
 pub loop-g-preserved : goal.loop-g-preserved
 loop-g-preserved c =
     let a = c.args in
@@ -62,8 +47,3 @@ loop-g-preserved c =
     (small_of a.w a.entries.now c.requires.3) refl (omega arith) l.invariant
     (rw eight at (part_put l.page _ _ (l.g * a.w) c.pack_chunks.ensures))
     ∙ ap (λ (n : ℕ). put a.page.now 0 (packed low_first a.w (take n a.entries.now))) more
-
-pub returns : goal.returns
-returns c =
-    let all : c.loop-g.g ≡ c.args.m = omega arith in
-    rw (← all) c.loop-g.invariant

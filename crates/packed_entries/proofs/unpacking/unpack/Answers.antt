@@ -1,6 +1,5 @@
 -- `packed_entries::unpacking::unpack` meets its contract: behind the groups, each turn fills one place more.
 use mathlib.Core.Path.{◌≡◌}
-use native.Mathlib.Nat.{mul-le-mul}
 use native.Mathlib.Omega.{arith}
 use Rattle.rules.specs.Bits.{entry}
 use Rattle.rules.specs.Bits.Order.{low_first}
@@ -13,12 +12,6 @@ loop-i-init c =
     let a = c.args in
     let front = c.unpack_front-front in
     in_place a.entries.now front.result (entry low_first a.page.now a.w) front.ensures.written
-
-pub overflow_mul-i : goal.overflow_mul-i
-overflow_mul-i c =
-    let a = c.args in
-    let l = c.loop-i in
-    omega (arith, mul-le-mul {n₁ = l.i} {m₁ = a.w} {n₂ = 16384} {m₂ = 32} (omega arith) (omega arith))
 
 pub loop-i-preserved : goal.loop-i-preserved
 loop-i-preserved c =

@@ -4,10 +4,7 @@ use Rattle.rules.specs.Bits.{flag}
 use Rattle.compare.specs.Range.{inside}
 use Rattle.packed_kernels.proofs.singly.entry_bit.Goals as goal
 
-pub returns : goal.returns
-returns g c =
-    let a = c.args in record {
-      told = c.inside_bit.ensures.told
-          ∙ ap (λ (x : ℕ). flag (inside a.low (a.low + a.span) x)) c.entry.ensures;
-      small = c.inside_bit.ensures.small;
-    }
+pub returns-clause-told : goal.returns-clause-told
+returns-clause-told g c =
+    let a = c.args in
+    c.inside_bit.ensures.told ∙ ap (λ (x : ℕ). flag (inside a.low (a.low + a.span) x)) c.entry.ensures
