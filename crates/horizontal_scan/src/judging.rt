@@ -15,13 +15,12 @@ pub fn judge_page(page: &[u8], width: u32, n: usize) -> Result<(), Refusal>
     let bits = n * width as usize;
     let bytes = (bits + 7) / 8;
     if page.len() < bytes {
-        return Err(Refusal::InputEndsTooEarly);
+        Err(Refusal::InputEndsTooEarly)
+    } else if bytes < page.len() {
+        Err(Refusal::InputLeftOver)
+    } else if 0 < entry_any(page, bits, (8 * bytes - bits) as u32) {
+        Err(Refusal::UnusedBitsNot0)
+    } else {
+        Ok(())
     }
-    if bytes < page.len() {
-        return Err(Refusal::InputLeftOver);
-    }
-    if 0 < entry_any(page, bits, (8 * bytes - bits) as u32) {
-        return Err(Refusal::UnusedBitsNot0);
-    }
-    Ok(())
 }

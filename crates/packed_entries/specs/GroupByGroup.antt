@@ -1,7 +1,6 @@
--- Entries by groups of eight, w bytes each: a group more behind those in place, and how many groups a page has room
--- for.
-use Rattle.std.specs.Prelude.{◌≡◌, List, ◌++◌, ℕ, zero, suc, ◌+◌, ◌-◌, ◌*◌, ◌/◌, ◌^◌, ◌≤◌, ◌<◌, length, take, drop}
-use Rattle.std.proofs.Common.{sym, ap, ap₂, ◌∙◌, add-mul, mul_assoc, mul-zero, div-mul-le_self, div-lt_iff_lt-mul, arith, length-drop, length-take-le}
+-- Entries by groups of eight, w bytes each: a group more behind those in place.
+use Rattle.std.specs.Prelude.{◌≡◌, List, ◌++◌, ℕ, ◌+◌, ◌*◌, ◌/◌, ◌^◌, ◌≤◌, ◌<◌, length, take, drop}
+use Rattle.std.proofs.Common.{sym, ap, ap₂, ◌∙◌, add-mul, mul_assoc, arith, length-drop, length-take-le}
 use Rattle.std.proofs.Math.Pow.{low, high}
 use Rattle.rules.specs.Bits.{bytes, entry, field, joined, put, tabulate}
 use Rattle.rules.specs.Bits.Order.{low_first}
@@ -71,17 +70,6 @@ laid-behind l xs w g m at h small here room first second =
     length-packed low_first w (take m (drop (8 * g) xs))
     ∙ ap (page_bytes w) (length-take-le m (drop (8 * g) xs) (rw length-drop (omega arith))) in
     put-behind l 0 a b first (omega arith) second (omega arith) ∙ ap (put l 0) (sym (packed-groups w g m xs h small))
-
--- ---- how many groups there is room for
-
--- where q groups reach too far, there are fewer, and they do not
-pub fewer-groups : (len w q : ℕ) → 8 ≤ len → len < q * w + 8
-    → (0 < w) × ((len - 8) / w ≤ q) × ((len - 8) / w * w + 8 ≤ len)
-fewer-groups len zero q h far = absurd (omega (arith, mul-zero q))
-fewer-groups len (suc k) q h far =
-    let some : 0 < suc k = omega arith in
-    let fewer : (len - 8) / suc k < q = (div-lt_iff_lt-mul some).1 (omega arith) in
-    (some, omega arith, omega (arith, div-mul-le_self (len - 8) (suc k)))
 
 -- ---- groups first, and then the other entries
 

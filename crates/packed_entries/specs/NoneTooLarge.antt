@@ -1,10 +1,11 @@
 -- No entry is too large, as a test of the list and as a bound on each place.
-use Rattle.std.specs.Prelude.{◌≡◌, refl, Bool, true, false, ◌||◌, List, [], ◌∷◌, ◌++◌, ℕ, zero, suc, ◌+◌, ◌^◌, ◌<◌, leb, length, take, drop, get_or}
-use Rattle.std.proofs.Common.{sym, ap, ap₂, ◌∙◌, true≢false, add-one, arith, take-suc, pow_pos, leb-true, leb-false, le-leb}
+use Rattle.std.specs.Prelude.{◌≡◌, refl, Bool, true, false, ◌||◌, List, [], ◌∷◌, ℕ, zero, suc, ◌^◌, leb, take, drop}
+use Rattle.std.proofs.Common.{sym, ap, ap₂, ◌∙◌, true≢false, arith, pow_pos, leb-true, leb-false, le-leb}
 use Rattle.std.proofs.Math.Bool.{or_assoc, or-false}
 use Rattle.std.specs.Int.Bits.{bit_or, or_add_and}
 use Rattle.std.proofs.lemmas.Nat.{or_lt, and_le_l, and_le_r}
 use Rattle.std.proofs.lemmas.Bool.{lt-leb}
+use Rattle.std.specs.List.{fold}
 use Rattle.rules.specs.Answer.{any_large, large_fault}
 use Rattle.answers.specs.Laws.{not-faulty}
 use Rattle.words.specs.Joined.{Small, small-take, small-drop}
@@ -41,27 +42,17 @@ large_or w a b = go (leb (2 ^ w) a) (leb (2 ^ w) b) refl refl
     go false true e f = le-leb (2 ^ w) (bit_or a b) (omega (arith, leb-true (2 ^ w) b f, or_add_and a b, and_le_l a b))
     go false false e f = lt-leb (2 ^ w) (bit_or a b) (or_lt w a b (leb-false (2 ^ w) a e) (leb-false (2 ^ w) b f))
 
-large_append : (w : ℕ) (a b : List ℕ) → any_large w (a ++ b) ≡ (any_large w a || any_large w b)
+-- and so by the bits of all
+from_here : (w a : ℕ) (xs : List ℕ) → leb (2 ^ w) (fold bit_or a xs) ≡ (leb (2 ^ w) a || any_large w xs)
 unfolding any_large
-large_append w [] b = refl
-large_append w (x ∷ a) b =
-    ap (λ (t : Bool). leb (2 ^ w) x || t) (large_append w a b)
-    ∙ sym (or_assoc (leb (2 ^ w) x) (any_large w a) (any_large w b))
+from_here w a [] = sym (or-false (leb (2 ^ w) a))
+from_here w a (x ∷ xs) =
+    from_here w (bit_or a x) xs ∙ ap (λ (t : Bool). t || any_large w xs) (large_or w a x)
+    ∙ or_assoc (leb (2 ^ w) a) (leb (2 ^ w) x) (any_large w xs)
 
-large-one : (w x : ℕ) → any_large w (x ∷ []) ≡ leb (2 ^ w) x
-unfolding any_large
-large-one w x = or-false (leb (2 ^ w) x)
-
-pub large-none : (w : ℕ) → leb (2 ^ w) 0 ≡ any_large w []
-unfolding any_large
-large-none w = lt-leb (2 ^ w) 0 (pow_pos w)
-
--- one entry more
-pub large-next : (w a : ℕ) (xs : List ℕ) (i : ℕ) → i < length xs → leb (2 ^ w) a ≡ any_large w (take i xs)
-    → leb (2 ^ w) (bit_or a (get_or xs i 0)) ≡ any_large w (take (i + 1) xs)
-large-next w a xs i h e =
-    rw (add-one, take-suc xs i 0 h, large_append, large-one)
-    (large_or w a (get_or xs i 0) ∙ ap (λ (t : Bool). t || leb (2 ^ w) (get_or xs i 0)) e)
+pub large_fold : (w : ℕ) (xs : List ℕ) → leb (2 ^ w) (fold bit_or 0 xs) ≡ any_large w xs
+large_fold w xs =
+    from_here w 0 xs ∙ ap (λ (t : Bool). t || any_large w xs) (lt-leb (2 ^ w) 0 (pow_pos w))
 
 -- where the listed fault is not there, no entry is too large
 pub fits_of : (w : ℕ) (xs : List ℕ) → large_fault w xs ≡ 0 → any_large w xs ≡ false

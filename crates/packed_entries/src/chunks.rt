@@ -14,16 +14,12 @@ fn at_once(w: usize) -> usize
     requires { w ≤ 32 }
     ensures { (0 < result) × (result * w ≤ 56) × (8 / result * result ≡ 8) }
 {
-    if w <= 7 {
-        return 8;
+    match w {
+        0..=7 => 8,
+        8..=14 => 4,
+        15..=28 => 2,
+        _ => 1,
     }
-    if w <= 14 {
-        return 4;
-    }
-    if w <= 28 {
-        return 2;
-    }
-    1
 }
 
 // The k entries from place i on, joined to one number.
@@ -32,10 +28,8 @@ fn chunk(entries: &[u32], i: usize, k: usize, w: usize) -> u64
     ensures { result ≡ joined w (take k (drop i entries.now)) }
 {
     let mut x: u64 = 0;
-    let mut j: usize = 0;
-    while j < k {
-        x = x | (entries[i + j] as u64) << (j * w);
-        j += 1;
+    for (j, entry) in entries[i..i + k].iter().enumerate() {
+        x |= (*entry as u64) << (j * w);
     }
     x
 }
@@ -48,10 +42,8 @@ pub fn pack_chunks(entries: &[u32], i: usize, k: usize, c: usize, w: usize, part
         ≡ put part.old 0 (packed low_first w (take (c * k) (drop i entries.now))) }
 {
     let bits = k * w;
-    let mut j: usize = 0;
-    while j < c {
+    for j in 0..c {
         append_at(part, j * bits, chunk(entries, i + j * k, k, w), bits as u32);
-        j += 1;
     }
 }
 
@@ -63,11 +55,8 @@ pub fn pack_groups(entries: &[u32], m: usize, w: usize, page: &mut [u8])
         ≡ put page.old 0 (packed low_first w (take (8 * m) entries.now)) }
 {
     let k = at_once(w);
-    let mut g: usize = 0;
-    let mut at: usize = 0;
-    while g < m {
+    for g in 0..m {
+        let at = g * w;
         pack_chunks(entries, 8 * g, k, 8 / k, w, &mut page[at..]);
-        at += w;
-        g += 1;
     }
 }

@@ -12,10 +12,8 @@ fn unpack_eight(page: &[u8], at: usize, w: usize, entries: &mut [u32], i: usize)
         ≡ put entries.old i
         (tabulate 8 (λ j. field low_first page.now (8 * at + j * w) w)) }
 {
-    let mut j: usize = 0;
-    while j < 8 {
+    for j in 0..8 {
         entries[i + j] = entry_in(page, at, j * w, w);
-        j += 1;
     }
 }
 
@@ -25,11 +23,7 @@ pub fn unpack_groups(page: &[u8], m: usize, w: usize, entries: &mut [u32])
     ensures { entries.new
         ≡ put entries.old 0 (tabulate (8 * m) (entry low_first page.now w)) }
 {
-    let mut g: usize = 0;
-    let mut at: usize = 0;
-    while g < m {
-        unpack_eight(page, at, w, entries, 8 * g);
-        at += w;
-        g += 1;
+    for g in 0..m {
+        unpack_eight(page, g * w, w, entries, 8 * g);
     }
 }

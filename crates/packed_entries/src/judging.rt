@@ -8,13 +8,7 @@ use answers::room_fault;
 pub fn bits_together(entries: &[u32]) -> u32
     ensures { (w : ℕ) → leb (2 ^ w) result ≡ any_large w entries.now }
 {
-    let mut all: u32 = 0;
-    let mut i: usize = 0;
-    while i < entries.len() {
-        all = all | entries[i];
-        i += 1;
-    }
-    all
+    entries.iter().fold(0, |all, entry| all | *entry)
 }
 
 // Is some entry not below 2^w: no entry is tested by itself.
@@ -31,7 +25,8 @@ pub fn entries_fault(entries: &[u32], w: u32, places: usize, need: usize) -> u32
     ensures { result ≡ (large_fault w entries.now then room_fault places need) }
 {
     if any_large(entries, w) {
-        return 8;
+        8
+    } else {
+        room_fault(places, need)
     }
-    room_fault(places, need)
 }

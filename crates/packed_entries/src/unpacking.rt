@@ -12,10 +12,7 @@ fn groups_within(len: usize, w: usize, q: usize) -> usize
     requires { (w ≤ 32) × (q ≤ 2048) × (8 ≤ len) }
     ensures { (result ≤ q) × (result * w + 8 ≤ len) }
 {
-    if q * w + 8 <= len {
-        return q;
-    }
-    (len - 8) / w
+    if q * w + 8 <= len { q } else { (len - 8) / w }
 }
 
 // The entries, of n, in groups whose windows end within the page, into the first places: how many they are.
@@ -39,9 +36,8 @@ pub fn unpack(page: &[u8], w: u32, n: usize, entries: &mut [u32])
     ensures { entries.new
         ≡ put entries.old 0 (tabulate n (entry low_first page.now w)) }
 {
-    let mut i = unpack_front(page, w, n, entries);
-    while i < n {
+    let front = unpack_front(page, w, n, entries);
+    for i in front..n {
         entries[i] = entry_any(page, i * w as usize, w);
-        i += 1;
     }
 }

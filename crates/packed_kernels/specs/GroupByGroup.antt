@@ -1,6 +1,6 @@
 -- A group more: eight tests are a byte, turned or not.
-use Rattle.std.specs.Prelude.{◌≡◌, ℕ, zero, suc, ◌+◌, ◌*◌, ◌%◌, ◌<◌, ◌≤◌, Bool, true, false, ltb, List, length, bit_and, bit_xor, nat_lt, slice_set, refl}
-use Rattle.std.proofs.Common.{sym, ap, ap₂, ◌∙◌, add-mul, mul_assoc, zero-mul, one-mul, mod-eq_of_lt, arith, length-set, lt-ltb}
+use Rattle.std.specs.Prelude.{◌≡◌, ℕ, zero, suc, ◌+◌, ◌*◌, ◌%◌, ◌<◌, Bool, true, false, ltb, List, length, bit_and, bit_xor, nat_lt, slice_set, refl}
+use Rattle.std.proofs.Common.{ap, ap₂, ◌∙◌, add-mul, mul_assoc, mod-eq_of_lt, arith, lt-ltb}
 use Rattle.std.specs.Int.Bits.{xor_zero_r, xor_add_and}
 use Rattle.std.proofs.lemmas.Nat.{and_mask}
 use mir.Val.{bool_byte}
@@ -8,7 +8,6 @@ use Rattle.rules.specs.Bits.{flag, word, bytes, put, field}
 use Rattle.rules.specs.Bits.Order.{low_first}
 use Rattle.rules.specs.Bitmap.{bitmap}
 use Rattle.words.specs.Bits.{word_lt, word-ext, word-not}
-use Rattle.words.specs.Entries.{place-within}
 use Rattle.words.specs.Puts.{put-none}
 use Rattle.bitmaps.specs.Bitmaps.{next_byte}
 use Rattle.compare.specs.Band.{turned}
@@ -21,16 +20,6 @@ pub eight_flags : (test : ℕ → Bool)
     + flag (test 5) * 32 + flag (test 6) * 64 + flag (test 7) * 128 ≡ word 8 test
 unfolding word
 eight_flags test = omega arith
-
--- and tests at the bits 0, w, 2 × w, .. one of tests at j × w
-pub group_flags : (test : ℕ → Bool) (w : ℕ)
-    → flag (test 0) + flag (test w) * 2 + flag (test (2 * w)) * 4 + flag (test (3 * w)) * 8
-    + flag (test (4 * w)) * 16 + flag (test (5 * w)) * 32 + flag (test (6 * w)) * 64 + flag (test (7 * w)) * 128
-    ≡ word 8 (λ j. test (j * w))
-group_flags test w =
-    let e : flag (test 0) ≡ flag (test (0 * w)) = ap (λ (k : ℕ). flag (test k)) (sym (zero-mul w)) in
-    let f : flag (test w) ≡ flag (test (1 * w)) = ap (λ (k : ℕ). flag (test k)) (sym (one-mul w)) in
-    rw (e, f) (eight_flags (λ j. test (j * w)))
 
 -- a byte of tests, or its complement
 turned_byte : (f : ℕ → Bool) (outside : Bool)
@@ -51,7 +40,7 @@ unfolding selected bitmap bytes
 none-selected l page w test = put-none l 0
 
 -- the byte of group g, of the eight entries from byte g × w on
-next-selected : (l page : List ℕ) (g w low span flip x : ℕ) → g < length l → flip < 256 → flip % 255 ≡ 0
+pub next-selected : (l page : List ℕ) (g w low span flip x : ℕ) → g < length l → flip < 256 → flip % 255 ≡ 0
     → x ≡ word 8 (λ j. inside low (low + span) (field low_first page (8 * (g * w) + j * w) w))
     → slice_set (put l 0 (selected page (8 * g) w (ranging low span flip))) g (bit_xor x flip)
     ≡ put l 0 (selected page (8 * (g + 1)) w (ranging low span flip))
@@ -65,39 +54,3 @@ next-selected l page g w low span flip x h small whole e =
     ∙ turned_byte (λ j. inside low (low + span) (field low_first page (8 * (g * w) + j * w) w)) outside
     ∙ word-ext 8 (λ j l. ap test (places j)) in
     next_byte l g (bit_xor x flip) (λ i. test (i * w)) h same
-
--- ---- the loop that all kernels have
-
--- group g, which begins at byte `at`, lies within m groups
-pub group_within : (m w g at : ℕ) → at ≡ g * w → g < m → at + w ≤ m * w
-group_within m w g at e h = omega (arith, place-within w g m h)
-
-module _ (page before : List ℕ) (m w low span flip : ℕ) where
-  -- g of m groups are passed: the next one begins at byte `at`, and their bytes are in place
-  abbrev pub Passed : List ℕ → ℕ → ℕ → Type 0
-  Passed bitmap g at =
-      (g ≤ m) × (length bitmap ≡ length before) × (at ≡ g * w)
-      × (bitmap ≡ put before 0 (selected page (8 * g) w (ranging low span flip)))
-
-  pub none_passed : Passed before 0 0
-  none_passed = (omega arith, refl, sym (zero-mul w), none-selected before page w (ranging low span flip))
-
-  -- the next one's byte x is stored
-  pub next-passed : (bitmap : List ℕ) (g at x : ℕ) → Passed bitmap g at → g < m → m ≤ length before → flip < 256
-      → flip % 255 ≡ 0
-      → x ≡ word 8 (λ j. inside low (low + span) (field low_first page (8 * at + j * w) w))
-      → Passed (slice_set bitmap g (bit_xor x flip)) (g + 1) (at + w)
-  next-passed bitmap g at x p h room small whole e =
-      let here : x ≡ word 8 (λ j. inside low (low + span) (field low_first page (8 * (g * w) + j * w) w)) =
-      e ∙ ap (λ (o : ℕ). word 8 (λ j. inside low (low + span) (field low_first page (8 * o + j * w) w))) p.2 in (
-        omega arith,
-        simp length-set p.1,
-        omega (arith, p, add-mul g 1 w),
-        rw p.3 (next-selected before page g w low span flip x (omega arith) small whole here),
-      )
-
-  pub all_passed : (bitmap : List ℕ) (g at : ℕ) → Passed bitmap g at → m ≤ g
-      → bitmap ≡ put before 0 (selected page (8 * m) w (ranging low span flip))
-  all_passed bitmap g at p h =
-      let all : g ≡ m = omega (arith, p) in
-      rw (← all) p.3

@@ -1,6 +1,6 @@
 // Several entries of one word tested at once, each in a slot that is wider than it, where a sum has room
 // for its carry.
-ghost use Rattle.std.specs.Prelude.{◌≡◌, ◌*◌, ◌^◌, ◌<◌, ◌≤◌, min};
+ghost use Rattle.std.specs.Prelude.{◌≡◌, ◌*◌, ◌^◌, ◌<◌, ◌≤◌};
 ghost use Rattle.rules.specs.Bits.{flag};
 ghost use Rattle.compare.specs.Range.{inside};
 ghost use Rattle.packed_kernels.specs.Slots.{slots};
@@ -11,12 +11,6 @@ pub fn pow(w: usize) -> u64
     ensures { result ≡ 2 ^ w }
 {
     1 << w
-}
-
-fn least(a: u64, b: u64) -> u64
-    ensures { result ≡ min a b }
-{
-    if a < b { a } else { b }
 }
 
 // 1 in each of two slots of d bits.
@@ -44,8 +38,8 @@ pub fn slot_tests(a: u64, n: usize, d: usize, ones: u64, w: usize, low: u64, hig
     ensures { result ≡ slots n d (λ i. flag (inside low high (held d w a i))) }
 {
     let p = pow(w);
-    let ge = (p - least(low, p)) * ones;
-    let le = (p + least(high, p - 1)) * ones;
+    let ge = (p - low.min(p)) * ones;
+    let le = (p + high.min(p - 1)) * ones;
     (((a + ge) & (le - a)) >> w) & ones
 }
 

@@ -1,12 +1,12 @@
 // Two entries at once, of 8 to 30 bits: two lie in one window of eight bytes.
-ghost use Rattle.std.specs.Prelude.{◌≡◌, ◌+◌, ◌*◌, ◌/◌, ◌%◌, ◌<◌, ◌≤◌, length};
-ghost use Rattle.rules.specs.Bits.{flag, word, put, field};
+ghost use Rattle.std.specs.Prelude.{◌≡◌, ◌+◌, ◌*◌, ◌/◌, ◌%◌, ◌≤◌, length};
+ghost use Rattle.rules.specs.Bits.{flag, field};
 ghost use Rattle.rules.specs.Bits.Order.{low_first};
-ghost use Rattle.compare.specs.Range.{inside, Flips};
+ghost use Rattle.compare.specs.Range.{inside};
 ghost use Rattle.packed_kernels.specs.Slots.{slots};
 ghost use Rattle.packed_kernels.specs.SlotTests.{held};
-ghost use Rattle.packed_kernels.specs.Selected.{selected, ranging};
 
+use crate::kernels::Kernel;
 use crate::slots::{ones_two, pow, slot_tests};
 use words::loads::load8;
 
@@ -32,43 +32,21 @@ fn two(page: &[u8], at: usize, b: usize, w: usize, low: u64, high: u64) -> u64
     slot_tests(apart(x, w), 2, d, ones_two(d), w, low, high)
 }
 
-// The tests of the eight entries from byte `at` on. The sum has those of the upper slot between those of
-// the lower one.
-fn eight(page: &[u8], at: usize, w: usize, low: u32, span: u32) -> u8
-    requires { (8 ≤ w) × (w ≤ 30) × (at + w + 8 ≤ length page.now) }
-    ensures { result
-        ≡ word 8
-        (λ j. inside low (low + span) (field low_first page.now (8 * at + j * w) w)) }
-{
-    let from = low as u64;
-    let to = from + span as u64;
-    let y = two(page, at, 0, w, from, to)
-        + two(page, at, 2 * w, w, from, to) * 4
-        + two(page, at, 4 * w, w, from, to) * 16
-        + two(page, at, 6 * w, w, from, to) * 64;
-    ((y + (y >> w)) % 256) as u8
-}
+pub struct Twos;
 
-// m groups to m bytes of the bitmap, w from 8 to 30.
-pub fn select_twos(
-    page: &[u8],
-    bitmap: &mut [u8],
-    m: usize,
-    w: usize,
-    low: u32,
-    span: u32,
-    flip: u8,
-)
-    requires { (8 ≤ w) × (w ≤ 30) × (m * w + 8 ≤ length page.now) × (m ≤ length bitmap.old)
-        × Flips flip }
-    ensures { bitmap.new
-        ≡ put bitmap.old 0 (selected page.now (8 * m) w (ranging low span flip)) }
-{
-    let mut g: usize = 0;
-    let mut at: usize = 0;
-    while g < m {
-        bitmap[g] = eight(page, at, w, low, span) ^ flip;
-        at += w;
-        g += 1;
+impl Kernel for Twos {
+    ghost takes = { λ w _ _. (8 ≤ w) × (w ≤ 30) };
+
+    ghost behind = { λ _. 8 };
+
+    // The sum has the tests of the upper slot between those of the lower one.
+    fn eight(page: &[u8], at: usize, w: usize, low: u32, span: u32) -> u8 {
+        let from = low as u64;
+        let to = from + span as u64;
+        let y = two(page, at, 0, w, from, to)
+            + two(page, at, 2 * w, w, from, to) * 4
+            + two(page, at, 4 * w, w, from, to) * 16
+            + two(page, at, 6 * w, w, from, to) * 64;
+        ((y + (y >> w)) % 256) as u8
     }
 }

@@ -11,7 +11,6 @@ ghost use Rattle.packed_kernels.specs.Selected.{selected, ranging};
 use bitmaps::trim;
 use compare::ranges::Range;
 use packed_widths::select_groups;
-use words::counts::min;
 
 // How many groups, of q, have windows that end within `len` bytes. Where all have, nothing is divided.
 fn groups_within(len: usize, w: usize, q: usize) -> usize
@@ -19,9 +18,10 @@ fn groups_within(len: usize, w: usize, q: usize) -> usize
     ensures { (result * w + 8 ≤ len) × (len ≤ result * w + w + 8) × (result ≤ q) }
 {
     if q * w + 8 <= len {
-        return q;
+        q
+    } else {
+        ((len - 8) / w).min(q)
     }
-    min((len - 8) / w, q)
 }
 
 // The groups, of q, whose windows end within the page: how many they are.
@@ -33,10 +33,7 @@ fn front(page: &[u8], bitmap: &mut [u8], q: usize, w: usize, low: u32, span: u32
     ensures written { bitmap.new
         ≡ put bitmap.old 0 (selected page.now (8 * result) w (ranging low span flip)) }
 {
-    if w == 0 {
-        return 0;
-    }
-    if page.len() < 8 {
+    if w == 0 || page.len() < 8 {
         return 0;
     }
     let m = groups_within(page.len(), w, q);
@@ -49,11 +46,8 @@ pub fn copy(page: &[u8], a: usize, rest: &mut [u8])
     requires { (a ≤ length page.now) × (length page.now ≤ a + length rest.old) }
     ensures { rest.new ≡ put rest.old 0 (drop a page.now) }
 {
-    let n = page.len() - a;
-    let mut i: usize = 0;
-    while i < n {
-        rest[i] = page[a + i];
-        i += 1;
+    for (i, byte) in page[a..].iter().enumerate() {
+        rest[i] = *byte;
     }
 }
 

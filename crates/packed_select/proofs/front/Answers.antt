@@ -5,24 +5,16 @@ use native.Mathlib.Omega.{arith}
 use Rattle.packed_kernels.specs.Selected.{ranging}
 use Rattle.packed_select.specs.TwoPieces.{none-front}
 use Rattle.packed_select.proofs.front.Goals as goal
+use Rattle.packed_select.proofs.front.Goals.{then-w-eq0-via-then-w-eq0, then-w-eq0-via-else-w-eq0+then-page-lt8}
 
 pub returns-then-w-eq0 : goal.returns-then-w-eq0
 returns-then-w-eq0 c =
     let a = c.args in
     let none =
     none-front a.bitmap.now a.page.now a.w (ranging a.low a.span a.flip) a.q
-    (omega (arith, ap (λ w. a.q * w) c.if-w-eq0.true))
+    (elim c.then-w-eq0.branch [
+      | then-w-eq0-via-then-w-eq0 w ↦ omega (arith, ap (λ w. a.q * w) w.if-w-eq0.true)
+      | then-w-eq0-via-else-w-eq0+then-page-lt8 w ↦ omega arith
+    ])
     in
     record { within = none.0; written = none.1 }
-
-pub returns-then-page-lt8 : goal.returns-then-page-lt8
-returns-then-page-lt8 c =
-    let a = c.args in
-    let none = none-front a.bitmap.now a.page.now a.w (ranging a.low a.span a.flip) a.q (omega arith) in
-    record { within = none.0; written = none.1 }
-
-pub select_groups-requires : goal.select_groups-requires
-select_groups-requires c = omega (arith, c.groups_within-m.ensures)
-
-pub returns : goal.returns
-returns c = record { within = omega (arith, c.groups_within-m.ensures); written = cc }

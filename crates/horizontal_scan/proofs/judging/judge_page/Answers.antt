@@ -37,9 +37,9 @@ returns-then-entry_any-gt0 c =
     rw (← c.entry_any.ensures) (omega arith) in
     rw (le-ltb _ _ c.if-page-bytes.false, le-ltb _ _ c.if-bytes-page.false, lt-ltb _ _ some)
 
-pub returns : goal.returns
+pub returns-else-entry_any-gt0 : goal.returns-else-entry_any-gt0
 unfolding page_fault ◌then◌
-returns c =
+returns-else-entry_any-gt0 c =
     let a = c.args in
     let none : unused low_first a.page.now a.width a.n ≤ 0 =
     rw (← c.entry_any.ensures) (omega arith) in

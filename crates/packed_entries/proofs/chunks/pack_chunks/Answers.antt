@@ -1,9 +1,9 @@
 -- `packed_entries::chunks::pack_chunks` meets its contract: each turn lays k entries, as one number, behind those
 -- that are laid.
-use mathlib.Core.Path.{◌≡◌, ◌∙◌}
+use mathlib.Core.Path.{◌∙◌}
 use mathlib.Core.List.{[]}
 use Prim.Native.Nat.{◌+◌, ◌*◌, ◌≤◌}
-use native.Mathlib.Nat.{add-mul, mul_assoc, mul-le-mul, mul-pos, one-mul, zero-mul}
+use native.Mathlib.Nat.{add-mul, mul_assoc, mul-pos, one-mul, zero-mul}
 use native.Mathlib.Omega.{arith}
 use lib.ListN.{length, drop, length-drop}
 use lib.Seq.{drop-drop}
@@ -18,32 +18,8 @@ use Rattle.packed_entries.proofs.chunks.pack_chunks.Goals as goal
 
 pub loop-j-init : goal.loop-j-init
 loop-j-init c =
-    let a = c.args in (
-      omega arith,
-      omega arith,
-      rw (zero-mul a.k, packed_none low_first a.w [] (zero-mul a.w)) (put-none a.part.now 0),
-    )
-
-pub overflow_mul-j : goal.overflow_mul-j
-overflow_mul-j c =
     let a = c.args in
-    let l = c.loop-j in
-    omega (arith, mul-le-mul {n₁ = l.j} {m₁ = a.k * a.w} {n₂ = 8} {m₂ = 56} (omega arith) (omega arith))
-
-pub overflow_mul-j-in-loop-j : goal.overflow_mul-j-in-loop-j
-overflow_mul-j-in-loop-j c =
-    let a = c.args in
-    omega (arith, place-within a.k c.loop-j.j a.c (omega arith))
-
-pub overflow_add-i : goal.overflow_add-i
-overflow_add-i c =
-    let a = c.args in
-    omega (arith, place-within a.k c.loop-j.j a.c (omega arith))
-
-pub chunk-requires : goal.chunk-requires
-chunk-requires c =
-    let a = c.args in
-    (omega arith, omega (arith, place-within a.k c.loop-j.j a.c (omega arith)), c.requires.5)
+    rw (zero-mul a.k, packed_none low_first a.w [] (zero-mul a.w)) (put-none a.part.now 0)
 
 pub append_at-requires : goal.append_at-requires
 append_at-requires c =
@@ -67,22 +43,14 @@ loop-j-preserved c =
     let xs = drop a.i a.entries.now in
     let small = small-drop a.w a.i a.entries.now (small_of a.w a.entries.now c.requires.5) in
     let there : l.j * a.k + a.k ≤ length xs = rw length-drop
-    (omega (arith, place-within a.k l.j a.c (omega arith))) in (
-      omega arith,
-      laid.auto.out ∙ l.invariant.1,
-      laid.ensures
-          ∙ rw (
-            l.invariant.2,
-            c.chunk.ensures,
-            ← (drop-drop (l.j * a.k) a.i a.entries.now),
-            ← (mul_assoc l.j a.k a.w),
-            add-mul l.j 1 a.k,
-            one-mul,
-          )
-          (laid_more a.part.now xs a.w (l.j * a.k) a.k there small),
+    (omega (arith, place-within a.k l.j a.c (omega arith))) in
+    laid.ensures
+    ∙ rw (
+      l.invariant,
+      c.chunk.ensures,
+      ← (drop-drop (l.j * a.k) a.i a.entries.now),
+      ← (mul_assoc l.j a.k a.w),
+      add-mul l.j 1 a.k,
+      one-mul,
     )
-
-pub returns : goal.returns
-returns c =
-    let all : c.loop-j.j ≡ c.args.c = omega arith in
-    rw (← all) c.loop-j.invariant.2
+    (laid_more a.part.now xs a.w (l.j * a.k) a.k there small)

@@ -1,9 +1,9 @@
 -- `packed_entries::chunks::pack_groups` meets its contract: each turn lays a group's page behind those of the
 -- groups before it.
-use mathlib.Core.Path.{◌≡◌, ap, ◌∙◌}
+use mathlib.Core.Path.{◌≡◌, refl, ap, ◌∙◌}
 use mathlib.Core.List.{[]}
 use Prim.Native.Nat.{ℕ, ◌+◌, ◌*◌}
-use native.Mathlib.Nat.{add-mul, div-le_self, zero-mul}
+use native.Mathlib.Nat.{div-le_self, zero-mul}
 use native.Mathlib.Omega.{arith}
 use lib.ListN.{take, length-drop}
 use Rattle.rules.specs.Bits.{put}
@@ -18,22 +18,8 @@ use Rattle.packed_entries.proofs.chunks.pack_groups.Goals as goal
 
 pub loop-g-init : goal.loop-g-init
 loop-g-init c =
-    let a = c.args in (
-      omega arith,
-      omega arith,
-      omega (arith, zero-mul a.w),
-      rw (packed_none low_first a.w [] (zero-mul a.w)) (put-none a.page.now 0),
-    )
-
-pub slice_bounds-pack_chunks-count : goal.slice_bounds-pack_chunks-count
-slice_bounds-pack_chunks-count c =
     let a = c.args in
-    omega (arith, place-within a.w c.loop-g.g a.m (omega arith))
-
-pub slice_bounds-pack_chunks-start : goal.slice_bounds-pack_chunks-start
-slice_bounds-pack_chunks-start c =
-    let a = c.args in
-    omega (arith, place-within a.w c.loop-g.g a.m (omega arith))
+    rw (packed_none low_first a.w [] (zero-mul a.w)) (put-none a.page.now 0)
 
 pub pack_chunks-requires : goal.pack_chunks-requires
 pack_chunks-requires c =
@@ -50,28 +36,14 @@ pack_chunks-requires c =
       rw (k.ensures.2, part_rest, length-drop) (omega arith),
     )
 
-pub overflow_add-at : goal.overflow_add-at
-overflow_add-at c =
-    let a = c.args in
-    omega (arith, place-within a.w c.loop-g.g a.m (omega arith))
-
 pub loop-g-preserved : goal.loop-g-preserved
 loop-g-preserved c =
     let a = c.args in
     let l = c.loop-g in
     let eight = c.at_once-k.ensures.2 in
     let group = place-within a.w l.g a.m (omega arith) in
-    let more : 8 * l.g + 8 ≡ 8 * (l.g + 1) = omega arith in (
-      omega arith,
-      omega arith,
-      omega (arith, add-mul l.g 1 a.w),
-      laid-behind a.page.now a.entries.now a.w l.g 8 l.at (omega arith)
-          (small_of a.w a.entries.now c.requires.3) l.invariant.2 (omega arith) l.invariant.3
-          (rw eight at (part_put l.page _ _ l.at c.pack_chunks.ensures))
-          ∙ ap (λ (n : ℕ). put a.page.now 0 (packed low_first a.w (take n a.entries.now))) more,
-    )
-
-pub returns : goal.returns
-returns c =
-    let all : c.loop-g.g ≡ c.args.m = omega arith in
-    rw (← all) c.loop-g.invariant.3
+    let more : 8 * l.g + 8 ≡ 8 * (l.g + 1) = omega arith in
+    laid-behind a.page.now a.entries.now a.w l.g 8 (l.g * a.w) (omega arith)
+    (small_of a.w a.entries.now c.requires.3) refl (omega arith) l.invariant
+    (rw eight at (part_put l.page _ _ (l.g * a.w) c.pack_chunks.ensures))
+    ∙ ap (λ (n : ℕ). put a.page.now 0 (packed low_first a.w (take n a.entries.now))) more

@@ -1,49 +1,19 @@
 -- `packed_entries::groups::unpack_eight` meets its contract: each turn fills one place more.
-use mathlib.Core.Path.{ap, ◌∙◌}
 use Prim.Native.Nat.{ℕ, ◌+◌, ◌*◌}
-use native.Mathlib.Nat.{mul-le-mul_right}
 use native.Mathlib.Omega.{arith}
-use lib.ListN.{length-set}
-use Rattle.rules.specs.Bits.{field, put, tabulate}
+use Rattle.rules.specs.Bits.{field}
 use Rattle.rules.specs.Bits.Order.{low_first}
 use Rattle.words.specs.Tabulated.{tabulate-none, put-tabulate_at}
 use Rattle.packed_entries.proofs.groups.unpack_eight.Goals as goal
 
 pub loop-j-init : goal.loop-j-init
 loop-j-init c =
-    let a = c.args in (
-      omega arith,
-      omega arith,
-      tabulate-none a.entries.now a.i (λ k. field low_first a.page.now (8 * a.at + k * a.w) a.w),
-    )
-
-pub overflow_mul-j : goal.overflow_mul-j
-overflow_mul-j c =
     let a = c.args in
-    let l = c.loop-j in
-    omega (arith, mul-le-mul_right {m = l.j} {n = 8} a.w (omega arith))
-
-pub entry_in-requires : goal.entry_in-requires
-entry_in-requires c =
-    let a = c.args in
-    let l = c.loop-j in
-    omega (arith, mul-le-mul_right {m = l.j} {n = 8} a.w (omega arith))
+    tabulate-none a.entries.now a.i (λ k. field low_first a.page.now (8 * a.at + k * a.w) a.w)
 
 pub loop-j-preserved : goal.loop-j-preserved
 loop-j-preserved c =
     let a = c.args in
     let l = c.loop-j in
-    let f : ℕ → ℕ = λ k. field low_first a.page.now (8 * a.at + k * a.w) a.w in (
-      omega arith,
-      simp length-set l.invariant.1,
-      rw (l.invariant.2, c.entry_in.ensures) (put-tabulate_at a.entries.now a.i l.j f (omega arith)),
-    )
-
-pub returns : goal.returns
-returns c =
-    let a = c.args in
-    let l = c.loop-j in
-    l.invariant.2
-    ∙ ap
-    (λ (n : ℕ). put a.entries.now a.i
-    (tabulate n (λ k. field low_first a.page.now (8 * a.at + k * a.w) a.w))) (omega arith)
+    let f : ℕ → ℕ = λ k. field low_first a.page.now (8 * a.at + k * a.w) a.w in
+    rw (l.invariant, c.entry_in.ensures) (put-tabulate_at a.entries.now a.i l.j f (omega arith))

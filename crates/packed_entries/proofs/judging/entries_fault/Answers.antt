@@ -12,9 +12,9 @@ returns-then-any_large c =
     (then_found _ _ 8 (ap (λ t. faulty t 8) (sym c.any_large.ensures ∙ c.if-any_large.true))
     (λ e. omega arith))
 
-pub returns : goal.returns
+pub returns-else-any_large : goal.returns-else-any_large
 unfolding large_fault
-returns c =
+returns-else-any_large c =
     c.room_fault.ensures
     ∙ sym
     (then_none _ _ (ap (λ t. faulty t 8) (sym c.any_large.ensures ∙ c.if-any_large.false)))

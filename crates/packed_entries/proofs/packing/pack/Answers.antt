@@ -2,7 +2,7 @@
 -- left.
 use mathlib.Core.Path.{◌≡◌, refl, sym, ap, ◌∙◌}
 use Prim.Native.Nat.{ℕ, ◌+◌, ◌*◌, ◌/◌, ◌%◌}
-use native.Mathlib.Nat.{mul-le-mul, mul-one, mul-zero, one-mul}
+use native.Mathlib.Nat.{mul-one, mul-zero, one-mul}
 use native.Mathlib.Omega.{arith}
 use lib.ListN.{length, take, length-drop}
 use lib.Seq.{take_all}
@@ -29,15 +29,6 @@ returns-then-w-eq0 c =
     ∙ ap (put l 0)
     (sym
     (packed_none low_first a.w a.entries.now (rw c.if-w-eq0.true (mul-zero (length a.entries.now)))))
-
-pub overflow_mul-at : goal.overflow_mul-at
-overflow_mul-at c =
-    let a = c.args in
-    omega (
-      arith,
-      mul-le-mul {n₁ = length a.entries.now / 8} {m₁ = a.w} {n₂ = 2048} {m₂ = 32} (omega arith)
-          (omega arith),
-    )
 
 pub pack_of_width-requires : goal.pack_of_width-requires
 pack_of_width-requires c =

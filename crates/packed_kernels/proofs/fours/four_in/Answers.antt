@@ -12,10 +12,7 @@ overflow_add-result c =
           c.pair_tests-y.ensures (omega arith);
     }
 
-pub returns : goal.returns
-returns c =
-    let a = c.args in record {
-      told = four_tests a.w (tested a.low a.high a.w a.x) c.pair_tests-y.result (omega arith)
-          c.pair_tests-y.ensures;
-      small = omega arith;
-    }
+pub returns-clause-told : goal.returns-clause-told
+returns-clause-told c =
+    let a = c.args in
+    four_tests a.w (tested a.low a.high a.w a.x) c.pair_tests-y.result (omega arith) c.pair_tests-y.ensures

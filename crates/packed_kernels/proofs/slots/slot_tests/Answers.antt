@@ -7,7 +7,7 @@ pub overflow_mul-ge : goal.overflow_mul-ge
 overflow_mul-ge c =
     let a = c.args in
     record {
-      fits = rw (c.least.ensures, c.pow-p.ensures, c.requires.3)
+      fits = rw (c.min.ensures, c.pow-p.ensures, c.requires.3)
           (every-fits a.n a.d a.w _ c.requires.1 c.requires.2 (omega (arith, pow_pos a.w)));
     }
 
@@ -21,7 +21,7 @@ pub overflow_mul-le : goal.overflow_mul-le
 overflow_mul-le c =
     let a = c.args in
     record {
-      fits = rw (c.least-2.ensures, c.pow-p.ensures, c.requires.3)
+      fits = rw (c.min-2.ensures, c.pow-p.ensures, c.requires.3)
           (every-fits a.n a.d a.w _ c.requires.1 c.requires.2 (omega (arith, pow_pos a.w)));
     }
 
@@ -29,18 +29,18 @@ pub overflow_add-result : goal.overflow_add-result
 overflow_add-result c =
     let a = c.args in
     record {
-      fits = rw (c.least.ensures, c.pow-p.ensures, c.requires.3)
+      fits = rw (c.min.ensures, c.pow-p.ensures, c.requires.3)
           (sum_fits a.n a.d a.w a.low a.high a.a c.requires.1 c.requires.4 c.requires.2);
     }
 
 pub overflow_sub-result : goal.overflow_sub-result
 overflow_sub-result c =
     let a = c.args in
-    rw (c.least-2.ensures, c.pow-p.ensures, c.requires.3)
+    rw (c.min-2.ensures, c.pow-p.ensures, c.requires.3)
     (rest-fits a.n a.d a.w a.low a.high a.a c.requires.1 c.requires.4)
 
 pub returns : goal.returns
 returns c =
     let a = c.args in
-    rw (c.least-2.ensures, c.least.ensures, c.pow-p.ensures, c.requires.3)
+    rw (c.min-2.ensures, c.min.ensures, c.pow-p.ensures, c.requires.3)
     (all_tested a.n a.d a.w a.low a.high a.a c.requires.1 c.requires.4)
