@@ -23,16 +23,16 @@ pub fn start(constant: i64, w: usize) -> End
             undecided: 0,
         };
     }
-    let c = constant as u64;
-    if c >> w == 0 {
-        return End {
+    if constant as u64 >> w == 0 {
+        End {
             less: 0,
             undecided: u64::MAX,
-        };
-    }
-    End {
-        less: u64::MAX,
-        undecided: 0,
+        }
+    } else {
+        End {
+            less: u64::MAX,
+            undecided: 0,
+        }
     }
 }
 
@@ -40,10 +40,7 @@ pub fn start(constant: i64, w: usize) -> End
 pub fn bits_of(constant: i64) -> u64
     ensures { result ≡ bits_of constant }
 {
-    if constant < 0 {
-        return 0;
-    }
-    constant as u64
+    if constant < 0 { 0 } else { constant as u64 }
 }
 
 // Bit k of c in all 64 lanes.
@@ -51,10 +48,7 @@ fn lay(c: u64, k: usize) -> u64
     requires { k < 64 }
     ensures { result ≡ laid c k }
 {
-    if (c >> k) % 2 == 1 {
-        return u64::MAX;
-    }
-    0
+    if (c >> k) % 2 == 1 { u64::MAX } else { 0 }
 }
 
 // The w lowest bits of c, each in all lanes of a word, the highest first.
@@ -62,9 +56,7 @@ pub fn spread(c: u64, w: usize, masks: &mut [u64])
     requires { (w ≤ 32) × (w ≤ length masks.old) }
     ensures { Spread masks.new w c }
 {
-    let mut k: usize = 0;
-    while k < w {
+    for k in 0..w {
         masks[k] = lay(c, w - 1 - k);
-        k += 1;
     }
 }

@@ -40,9 +40,8 @@ fn together(planes: &[u64], lows: &[u64], apart: &[u64]) -> Lanes
     ensures { StandsFor planes.now lows.now apart.now result }
 {
     let mut alike = u64::MAX;
-    let mut i: usize = 0;
-    while i < planes.len() {
-        let other = planes[i] ^ lows[i];
+    for (i, plane) in planes.iter().enumerate() {
+        let other = *plane ^ lows[i];
         if apart[i] != 0 {
             return Lanes {
                 undecided: alike,
@@ -51,14 +50,13 @@ fn together(planes: &[u64], lows: &[u64], apart: &[u64]) -> Lanes
                 taken: i + 1,
             };
         }
-        alike = alike & !other;
-        i += 1;
+        alike &= !other;
         if alike == 0 {
             return Lanes {
                 undecided: 0,
                 upper: 0,
                 outside: u64::MAX,
-                taken: i,
+                taken: i + 1,
             };
         }
     }
@@ -66,7 +64,7 @@ fn together(planes: &[u64], lows: &[u64], apart: &[u64]) -> Lanes
         undecided: alike,
         upper: 0,
         outside: !alike,
-        taken: i,
+        taken: planes.len(),
     }
 }
 

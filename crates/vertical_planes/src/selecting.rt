@@ -6,9 +6,10 @@ ghost use Rattle.vertical_planes.specs.Ends.{Masked};
 ghost use Rattle.vertical_planes.specs.Chosen.{chosen, lanes64};
 
 use crate::ends::{bits_of, spread};
-use crate::four::{FourCompared, compare_four};
+use crate::four::{Four, compare_four};
 use crate::groups::compare;
 use compare::bands::Band;
+use rules::Compared;
 use words::stores::{store_low, store8};
 
 // The lanes of group g that the band selects, a bit for each.
@@ -31,7 +32,7 @@ fn four_groups(
     band: Band,
     lows: &[u64],
     apart: &[u64],
-) -> FourCompared
+) -> Four<Compared>
     requires few { (w ≤ 32) × (g * w + 4 * w ≤ length words.now) × (w ≤ length lows.now)
         × (w ≤ length apart.now) }
     requires masked { Masked lows.now apart.now w band }
@@ -72,15 +73,13 @@ fn select_fours(
     ensures { bitmap.new
         ≡ put bitmap.old 0 (chosen words.now (64 * (4 * m)) w band) }
 {
-    let mut k: usize = 0;
-    while k < m {
+    for k in 0..m {
         let g = 4 * k;
         let four = four_groups(words, w, g, band, lows, apart);
         store8(bitmap, 8 * g, four.first.bits);
         store8(bitmap, 8 * (g + 1), four.second.bits);
         store8(bitmap, 8 * (g + 2), four.third.bits);
         store8(bitmap, 8 * (g + 3), four.fourth.bits);
-        k += 1;
     }
 }
 
@@ -101,10 +100,8 @@ fn select_full(
         ≡ put bitmap.old 0 (chosen words.now (64 * q) w band) }
 {
     select_fours(words, w, q / 4, band, lows, apart, bitmap);
-    let mut g = 4 * (q / 4);
-    while g < q {
+    for g in 4 * (q / 4)..q {
         store8(bitmap, 8 * g, group_bits(words, w, g, band, lows, apart));
-        g += 1;
     }
 }
 

@@ -2,7 +2,8 @@
 use mathlib.Core.Path.{ap, ◌∙◌}
 use Prim.Native.Nat.{◌+◌, ◌*◌}
 use native.Mathlib.Omega.{arith}
-use Rattle.vertical_planes.specs.declared.four.FourCompared.{FourCompared}
+use Rattle.rules.specs.declared.Compared.{Compared}
+use Rattle.vertical_planes.specs.declared.four.Four.{Four}
 use Rattle.vertical_planes.specs.Chosen.{part_length, part_bits}
 use Rattle.vertical_planes.proofs.selecting.four_groups.Goals as goal
 
@@ -23,12 +24,12 @@ returns c =
     let a = c.args in
     let w = a.w in
     let at = a.g * w in (
-      ap (λ (r : FourCompared). r.first.bits) c.compare_four.ensures
+      ap (λ (r : Four Compared). r.first.bits) c.compare_four.ensures
           ∙ part_bits a.words.now at (at + w) w a.band (omega arith) (omega arith),
-      ap (λ (r : FourCompared). r.second.bits) c.compare_four.ensures
+      ap (λ (r : Four Compared). r.second.bits) c.compare_four.ensures
           ∙ part_bits a.words.now (at + w) (at + w + w) w a.band (omega arith) (omega arith),
-      ap (λ (r : FourCompared). r.third.bits) c.compare_four.ensures
+      ap (λ (r : Four Compared). r.third.bits) c.compare_four.ensures
           ∙ part_bits a.words.now (at + w + w) (at + w + w + w) w a.band (omega arith) (omega arith),
-      ap (λ (r : FourCompared). r.fourth.bits) c.compare_four.ensures
+      ap (λ (r : Four Compared). r.fourth.bits) c.compare_four.ensures
           ∙ part_bits a.words.now (at + w + w + w) (at + w + w + w + w) w a.band (omega arith) (omega arith),
     )
