@@ -2,7 +2,9 @@
 ghost use Rattle.std.specs.Prelude.{◌≡◌, [], ◌≤◌, ◌<◌, length};
 ghost use Rattle.rules.specs.Bits.{word};
 ghost use Rattle.rules.specs.Planes.{undecided};
-ghost use Rattle.vertical_planes.specs.Ends.{below, bits_of, laid, Spread};
+ghost use Rattle.vertical_planes.specs.Ends.{below, bits_of, laid, Masked, Spread};
+
+use compare::bands::Band;
 
 // How the 64 lanes stand to one end before the first plane: below it, or undecided; else above it.
 #[derive(Clone, Copy)]
@@ -58,5 +60,37 @@ pub fn spread(c: u64, w: usize, masks: &mut [u64])
 {
     for k in 0..w {
         masks[k] = lay(c, w - 1 - k);
+    }
+}
+
+// A band for groups of w planes. Its ends' bits are laid out, the highest first, each in all lanes of a word: the low
+// end's, and ones where the high end's is another.
+#[derive(Drop)]
+pub struct Ends {
+    pub band: Band,
+    pub w: usize,
+    pub lows: [u64; 32],
+    pub apart: [u64; 32],
+    pub ghost few: { w ≤ 32 },
+    pub ghost masked: { Masked lows apart w band },
+}
+
+impl Ends {
+    pub fn new(band: Band, w: usize) -> Self
+        requires { w ≤ 32 }
+        ensures { (result.band ≡ band) × (result.w ≡ w) }
+    {
+        let low = bits_of(band.low);
+        let high = bits_of(band.high);
+        let mut lows = [0u64; 32];
+        let mut apart = [0u64; 32];
+        spread(low, w, &mut lows);
+        spread(low ^ high, w, &mut apart);
+        Self {
+            band,
+            w,
+            lows,
+            apart,
+        }
     }
 }

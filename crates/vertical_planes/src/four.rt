@@ -1,11 +1,11 @@
 // Four groups side by side while none of them is settled: their lanes go through the same steps.
 ghost use Rattle.std.specs.Prelude.{◌≡◌, ◌&&◌, ◌≤◌, ◌<◌, ltb, eqb, length, get_or};
-ghost use Rattle.vertical_planes.specs.Ends.{Masked, AllOrNone};
+ghost use Rattle.vertical_planes.specs.Ends.{AllOrNone};
 ghost use Rattle.vertical_planes.specs.Four.{stepped_four, four_compared};
 
+use crate::ends::Ends;
 use crate::groups::finish;
 use crate::lanes::{Lanes, begin, step};
-use compare::bands::Band;
 use rules::Compared;
 
 // Something of each of four groups.
@@ -94,34 +94,30 @@ pub fn compare_four(
     second: &[u64],
     third: &[u64],
     fourth: &[u64],
-    band: Band,
-    lows: &[u64],
-    apart: &[u64],
+    ends: &Ends,
 ) -> Four<Compared>
-    requires few { (length first.now ≤ 32) × (length second.now ≡ length first.now)
-        × (length third.now ≡ length first.now) × (length fourth.now ≡ length first.now)
-        × (length first.now ≤ length lows.now) × (length first.now ≤ length apart.now) }
-    requires masked { Masked lows.now apart.now (length first.now) band }
+    requires { (length first.now ≡ ends.now.w) × (length second.now ≡ ends.now.w)
+        × (length third.now ≡ ends.now.w) × (length fourth.now ≡ ends.now.w) }
     ensures { result ≡ four_compared first.now second.now third.now
-        fourth.now band }
+        fourth.now ends.now.band }
 {
     let mut four = Four {
-        first: begin(first, band, lows, apart),
-        second: begin(second, band, lows, apart),
-        third: begin(third, band, lows, apart),
-        fourth: begin(fourth, band, lows, apart),
+        first: begin(first, ends),
+        second: begin(second, ends),
+        third: begin(third, ends),
+        fourth: begin(fourth, ends),
     };
     if in_step(four) {
         while four.first.taken < first.len() && all_open(four) {
             let i = four.first.taken;
             let planes = planes_at(first, second, third, fourth, i);
-            four = step_four(four, planes, lows[i], apart[i]);
+            four = step_four(four, planes, ends.lows[i], ends.apart[i]);
         }
     }
     Four {
-        first: finish(first, band, lows, apart, four.first),
-        second: finish(second, band, lows, apart, four.second),
-        third: finish(third, band, lows, apart, four.third),
-        fourth: finish(fourth, band, lows, apart, four.fourth),
+        first: finish(first, ends, four.first),
+        second: finish(second, ends, four.second),
+        third: finish(third, ends, four.third),
+        fourth: finish(fourth, ends, four.fourth),
     }
 }

@@ -10,16 +10,13 @@ use Rattle.vertical_planes.proofs.selecting.select_fours.Goals as goal
 pub loop-k-init : goal.loop-k-init
 loop-k-init c =
     let a = c.args in
-    none-chosen a.bitmap.now a.words.now a.w a.band
+    none-chosen a.bitmap.now a.words.now a.ends.now.w a.ends.now.band
 
 pub four_groups-four-requires : goal.four_groups-four-requires
 four_groups-four-requires c =
     let a = c.args in
     let k = c.loop-k.k in
-    record {
-      few = omega (arith, place-within a.w (4 * k + 3) (4 * a.m) (omega arith));
-      masked = c.requires.masked;
-    }
+    omega (arith, place-within a.ends.now.w (4 * k + 3) (4 * a.m) (omega arith))
 
 pub loop-k-preserved : goal.loop-k-preserved
 loop-k-preserved c =
@@ -36,8 +33,8 @@ loop-k-preserved c =
     (c.store8-in-loop-k.ensures
     ∙ ap (λ x. put x (8 * (g + 1)) (bytes 8 r.second.bits))
     (c.store8.ensures ∙ ap (λ x. put x (8 * g) (bytes 8 r.first.bits)) l.invariant)))
-    ∙ next_four a.bitmap.now a.words.now a.w a.band g _ _ _ _ (omega arith) sums.0 sums.1 sums.2 sums.3
-    ∙ ap (λ (k : ℕ). put a.bitmap.now 0 (chosen a.words.now k a.w a.band)) more
+    ∙ next_four a.bitmap.now a.words.now a.ends.now.w a.ends.now.band g _ _ _ _ (omega arith) sums.0 sums.1 sums.2 sums.3
+    ∙ ap (λ (k : ℕ). put a.bitmap.now 0 (chosen a.words.now k a.ends.now.w a.ends.now.band)) more
 
 pub returns : goal.returns
 returns c =

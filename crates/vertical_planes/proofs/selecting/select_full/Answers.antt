@@ -11,10 +11,7 @@ use Rattle.vertical_planes.proofs.selecting.select_full.Goals as goal
 pub select_fours-requires : goal.select_fours-requires
 select_fours-requires c =
     let a = c.args in
-    record {
-      few = omega (arith, mul-le-mul_right {m = 4 * (a.q / 4)} {n = a.q} a.w (omega arith));
-      masked = c.requires.masked;
-    }
+    omega (arith, mul-le-mul_right {m = 4 * (a.q / 4)} {n = a.q} a.ends.now.w (omega arith))
 
 pub loop-g-init : goal.loop-g-init
 loop-g-init c = c.select_fours.ensures
@@ -22,10 +19,7 @@ loop-g-init c = c.select_fours.ensures
 pub group_bits-requires : goal.group_bits-requires
 group_bits-requires c =
     let a = c.args in
-    record {
-      few = omega (arith, place-within a.w c.loop-g.g a.q (omega arith));
-      masked = c.requires.masked;
-    }
+    omega (arith, place-within a.ends.now.w c.loop-g.g a.q (omega arith))
 
 pub loop-g-preserved : goal.loop-g-preserved
 loop-g-preserved c =
@@ -34,7 +28,7 @@ loop-g-preserved c =
     let g = l.g in
     c.store8.ensures
     ∙ ap (λ y. put y (8 * g) (bytes 8 c.group_bits.result)) l.invariant
-    ∙ next_group a.bitmap.now a.words.now a.w a.band g (g + 1) (g * a.w) _ refl refl (omega arith) c.group_bits.ensures
+    ∙ next_group a.bitmap.now a.words.now a.ends.now.w a.ends.now.band g (g + 1) (g * a.ends.now.w) _ refl refl (omega arith) c.group_bits.ensures
 
 pub returns : goal.returns
 returns c =

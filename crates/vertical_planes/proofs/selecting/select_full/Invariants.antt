@@ -6,4 +6,4 @@ use Rattle.vertical_planes.specs.Chosen.{chosen}
 use Rattle.vertical_planes.proofs.selecting.select_full.Given as goal
 
 abbrev pub invariant-loop-g : goal.invariant-loop-g
-invariant-loop-g l = l.bitmap ≡ put l.fn.bitmap 0 (chosen l.words (64 * l.g) l.w l.band)
+invariant-loop-g l = l.bitmap ≡ put l.fn.bitmap 0 (chosen l.words (64 * l.g) l.ends.w l.ends.band)
