@@ -16,10 +16,7 @@ fn is_short(bitmap: &[u8], n: usize, places: usize) -> bool
     requires { (n ≤ 16384) × (ceil n 8 ≤ length bitmap.now) }
     ensures { result ≡ ltb places (length (Spans.spans bitmap.now n)) }
 {
-    if 2 * ((n + 1) / 2) <= places {
-        return false;
-    }
-    places < edges_in(bitmap, n)
+    places < 2 * ((n + 1) / 2) && places < edges_in(bitmap, n)
 }
 
 // A bitmap that is long enough: the room is judged by the stretches there are.

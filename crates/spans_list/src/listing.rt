@@ -19,12 +19,12 @@ fn put_pairs(turns: u64, p: usize, places: &mut [u32], q: usize) -> usize
     let mut left = turns;
     let mut at = q;
     while left != 0 {
-        places[at] = (p + u64::trailing_zeros(left) as usize) as u32;
+        places[at] = (p + left.trailing_zeros() as usize) as u32;
         let more = left & (left - 1);
         if more == 0 {
             return at + 1;
         }
-        places[at + 1] = (p + u64::trailing_zeros(more) as usize - 1) as u32;
+        places[at + 1] = (p + more.trailing_zeros() as usize - 1) as u32;
         left = more & (more - 1);
         at += 2;
     }
@@ -42,7 +42,7 @@ fn put_edges(turns: u64, carry: u64, p: usize, places: &mut [u32], q: usize) -> 
         return q;
     }
     if carry == 1 {
-        places[q] = (p + u64::trailing_zeros(turns) as usize - 1) as u32;
+        places[q] = (p + turns.trailing_zeros() as usize - 1) as u32;
         return put_pairs(turns & (turns - 1), p, places, q + 1);
     }
     put_pairs(turns, p, places, q)
@@ -70,10 +70,8 @@ pub fn list(bitmap: &[u8], n: usize, places: &mut [u32]) -> usize
         ≡ put places.old 0 (spans bitmap.now n) }
 {
     let mut at: usize = 0;
-    let mut q: usize = 0;
-    while q < n / 64 {
+    for q in 0..n / 64 {
         at = put_turns(load8(bitmap, 8 * q), 64 * q, places, at);
-        q += 1;
     }
-    put_turns(last_word(bitmap, n), 64 * q, places, at)
+    put_turns(last_word(bitmap, n), 64 * (n / 64), places, at)
 }

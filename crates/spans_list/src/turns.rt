@@ -28,12 +28,10 @@ pub fn edges_in(bitmap: &[u8], n: usize) -> usize
 {
     let mut count: usize = 0;
     let mut carry: u64 = 0;
-    let mut q: usize = 0;
-    while q < n / 64 {
+    for q in 0..n / 64 {
         let x = load8(bitmap, 8 * q);
-        count += u64::count_ones(turns(x, carry)) as usize;
+        count += turns(x, carry).count_ones() as usize;
         carry = x / 9223372036854775808;
-        q += 1;
     }
-    count + u64::count_ones(turns(last_word(bitmap, n), carry)) as usize
+    count + turns(last_word(bitmap, n), carry).count_ones() as usize
 }

@@ -11,7 +11,7 @@ use Rattle.spans_mark.specs.Placed.{Placed, first-placed, covered-low}
 -- ---- pair k
 
 -- what is left of a list from an even place on, and its first two numbers
-pair_at_lem : (l : List ℕ) (k : ℕ) → k + 1 < length l → drop k l ≡ get_or l k 0 ∷ get_or l (k + 1) 0 ∷ drop (k + 2) l
+pub pair_at_lem : (l : List ℕ) (k : ℕ) → k + 1 < length l → drop k l ≡ get_or l k 0 ∷ get_or l (k + 1) 0 ∷ drop (k + 2) l
 pair_at_lem l k h =
     let one : suc k ≡ k + 1 = omega arith in
     let two : suc (k + 1) ≡ k + 2 = omega arith in

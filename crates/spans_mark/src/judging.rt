@@ -8,22 +8,7 @@ ghost use Rattle.spans_mark.specs.Covers.{pair_misplaced};
 fn pair_misplaced(n: u32, from: u32, first: u32, last: u32) -> bool
     ensures { result ≡ pair_misplaced n from first last }
 {
-    if first < from {
-        return true;
-    }
-    if last < first {
-        return true;
-    }
-    n <= last
-}
-
-fn either(a: bool, b: bool) -> bool
-    ensures { result ≡ (a || b) }
-{
-    if a {
-        return true;
-    }
-    b
+    first < from || last < first || n <= last
 }
 
 // The least first number behind a pair; where its last number is past every count, the pair is misplaced
@@ -31,10 +16,7 @@ fn either(a: bool, b: bool) -> bool
 fn next_from(last: u32) -> u32
     ensures { result ≡ min last 16384 + 2 }
 {
-    if 16384 < last {
-        return 16386;
-    }
-    last + 2
+    last.min(16384) + 2
 }
 
 pub fn is_misplaced(list: &[u32], n: usize) -> bool
@@ -43,13 +25,9 @@ pub fn is_misplaced(list: &[u32], n: usize) -> bool
 {
     let mut found = false;
     let mut from: u32 = 0;
-    let mut k: usize = 0;
-    while k < list.len() {
-        let first = list[k];
-        let last = list[k + 1];
-        found = either(found, pair_misplaced(n as u32, from, first, last));
-        from = next_from(last);
-        k += 2;
+    for pair in list.chunks_exact(2) {
+        found |= pair_misplaced(n as u32, from, pair[0], pair[1]);
+        from = next_from(pair[1]);
     }
     found
 }

@@ -15,11 +15,9 @@ fn pass(bitmap: &mut [u8], at: usize, to: usize, x: u64, rest: u64) -> u64
         ≡ put bitmap.old (8 * at) (filled (to - at) x rest) }
 {
     let mut word = x;
-    let mut q = at;
-    while q < to {
+    for q in at..to {
         store8(bitmap, 8 * q, word);
         word = rest;
-        q += 1;
     }
     word
 }
@@ -52,16 +50,14 @@ pub fn mark(list: &[u32], n: usize, bitmap: &mut [u8]) -> u32
     let mut at: usize = 0;
     // how many entries of the stretches are not their first
     let mut longer: u32 = 0;
-    let mut k: usize = 0;
-    while k < list.len() {
-        let first = list[k];
-        let last = list[k + 1];
+    for pair in list.chunks_exact(2) {
+        let first = pair[0];
+        let last = pair[1];
         let from = (first / 64) as usize;
         let begun = pass(bitmap, at, from, word, 0) + from_bit(first % 64);
         at = (last / 64) as usize;
         word = pass(bitmap, from, at, begun, u64::MAX) - behind_bit(last % 64);
         longer += last - first;
-        k += 2;
     }
     let rest = pass(bitmap, at, n / 64, word, 0);
     store_low(bitmap, 8 * (n / 64), rest, (n % 64 + 7) / 8);

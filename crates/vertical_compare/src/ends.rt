@@ -3,7 +3,7 @@ ghost use Rattle.std.specs.Prelude.{◌≡◌, [], ◌≤◌, ◌<◌};
 ghost use Rattle.vertical_compare.specs.Ends.{end_at, stepped};
 
 // How the 64 lanes stand to one end of a band by the planes taken so far: below it, and not yet decided.
-#[derive(Drop)]
+#[derive(Clone, Copy)]
 pub struct End {
     pub constant: u64,
     pub less: u64,
@@ -22,18 +22,19 @@ pub fn start(constant: i64, w: usize) -> End
             undecided: 0,
         };
     }
-    let c = constant as u64;
-    if c >> w == 0 {
-        return End {
-            constant: c,
+    let constant = constant as u64;
+    if constant >> w == 0 {
+        End {
+            constant,
             less: 0,
             undecided: u64::MAX,
-        };
-    }
-    End {
-        constant: c,
-        less: u64::MAX,
-        undecided: 0,
+        }
+    } else {
+        End {
+            constant,
+            less: u64::MAX,
+            undecided: 0,
+        }
     }
 }
 
@@ -43,15 +44,15 @@ pub fn step(end: End, plane: u64, left: usize) -> End
     ensures { result ≡ stepped 64 end plane left }
 {
     if (end.constant >> left) % 2 == 1 {
-        return End {
-            constant: end.constant,
+        End {
             less: end.less | (end.undecided & !plane),
             undecided: end.undecided & plane,
-        };
-    }
-    End {
-        constant: end.constant,
-        less: end.less,
-        undecided: end.undecided & !plane,
+            ..end
+        }
+    } else {
+        End {
+            undecided: end.undecided & !plane,
+            ..end
+        }
     }
 }

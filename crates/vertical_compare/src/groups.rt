@@ -15,14 +15,10 @@ pub fn compare_group(planes: &[u64], low: i64, high: i64) -> u64
 {
     let mut lower = start(low, planes.len());
     let mut upper = start(high, planes.len());
-    let mut left = planes.len();
-    let mut i: usize = 0;
-    while i < planes.len() {
-        left -= 1;
-        let plane = planes[i];
-        lower = step(lower, plane, left);
-        upper = step(upper, plane, left);
-        i += 1;
+    for (i, plane) in planes.iter().enumerate() {
+        let left = planes.len() - 1 - i;
+        lower = step(lower, *plane, left);
+        upper = step(upper, *plane, left);
     }
     !lower.less & (upper.less | upper.undecided)
 }

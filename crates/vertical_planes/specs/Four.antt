@@ -3,10 +3,10 @@ use Rattle.std.specs.Prelude.{List, ℕ}
 use Rattle.compare.specs.declared.bands.Band.{Band}
 use Rattle.vertical_planes.specs.Standing.{stepped, band_compared, Standing}
 use Rattle.vertical_planes.specs.declared.four.Four.{Four}
-use Rattle.vertical_planes.specs.declared.four.FourPlanes.{FourPlanes}
-use Rattle.vertical_planes.specs.declared.four.FourCompared.{FourCompared}
+use Rattle.vertical_planes.specs.declared.lanes.Lanes.{Lanes}
+use Rattle.rules.specs.declared.Compared.{Compared}
 
-abbrev pub stepped_four : Four → FourPlanes → ℕ → ℕ → Four
+abbrev pub stepped_four : Four Lanes → Four ℕ → ℕ → ℕ → Four Lanes
 stepped_four four planes low apart =
     record {
       first = stepped four.first planes.first low apart;
@@ -16,12 +16,12 @@ stepped_four four planes low apart =
     }
 
 module _ (first second third fourth : List ℕ) (band : Band) where
-  abbrev pub FourStanding : Four → Type 0
+  abbrev pub FourStanding : Four Lanes → Type 0
   FourStanding four =
       Standing first band four.first × Standing second band four.second
       × Standing third band four.third × Standing fourth band four.fourth
 
-  abbrev pub four_compared : FourCompared
+  abbrev pub four_compared : Four Compared
   four_compared =
       record {
         first = band_compared first band;

@@ -10,7 +10,7 @@ use Rattle.vertical_planes.specs.declared.lanes.Lanes.{Lanes}
 use Rattle.vertical_planes.specs.declared.four.Four.{Four}
 
 -- as many planes are taken of each
-abbrev pub InStep : Four → Type 0
+abbrev pub InStep : Four Lanes → Type 0
 InStep four =
     (four.second.taken ≡ four.first.taken) × (four.third.taken ≡ four.first.taken)
     × (four.fourth.taken ≡ four.first.taken)

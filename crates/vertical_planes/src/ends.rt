@@ -2,7 +2,9 @@
 ghost use Rattle.std.specs.Prelude.{◌≡◌, [], ◌≤◌, ◌<◌, length};
 ghost use Rattle.rules.specs.Bits.{word};
 ghost use Rattle.rules.specs.Planes.{undecided};
-ghost use Rattle.vertical_planes.specs.Ends.{below, bits_of, laid, Spread};
+ghost use Rattle.vertical_planes.specs.Ends.{below, bits_of, laid, Masked, Spread};
+
+use compare::bands::Band;
 
 // How the 64 lanes stand to one end before the first plane: below it, or undecided; else above it.
 #[derive(Clone, Copy)]
@@ -23,16 +25,16 @@ pub fn start(constant: i64, w: usize) -> End
             undecided: 0,
         };
     }
-    let c = constant as u64;
-    if c >> w == 0 {
-        return End {
+    if constant as u64 >> w == 0 {
+        End {
             less: 0,
             undecided: u64::MAX,
-        };
-    }
-    End {
-        less: u64::MAX,
-        undecided: 0,
+        }
+    } else {
+        End {
+            less: u64::MAX,
+            undecided: 0,
+        }
     }
 }
 
@@ -40,10 +42,7 @@ pub fn start(constant: i64, w: usize) -> End
 pub fn bits_of(constant: i64) -> u64
     ensures { result ≡ bits_of constant }
 {
-    if constant < 0 {
-        return 0;
-    }
-    constant as u64
+    if constant < 0 { 0 } else { constant as u64 }
 }
 
 // Bit k of c in all 64 lanes.
@@ -51,10 +50,7 @@ fn lay(c: u64, k: usize) -> u64
     requires { k < 64 }
     ensures { result ≡ laid c k }
 {
-    if (c >> k) % 2 == 1 {
-        return u64::MAX;
-    }
-    0
+    if (c >> k) % 2 == 1 { u64::MAX } else { 0 }
 }
 
 // The w lowest bits of c, each in all lanes of a word, the highest first.
@@ -62,9 +58,39 @@ pub fn spread(c: u64, w: usize, masks: &mut [u64])
     requires { (w ≤ 32) × (w ≤ length masks.old) }
     ensures { Spread masks.new w c }
 {
-    let mut k: usize = 0;
-    while k < w {
+    for k in 0..w {
         masks[k] = lay(c, w - 1 - k);
-        k += 1;
+    }
+}
+
+// A band for groups of w planes. Its ends' bits are laid out, the highest first, each in all lanes of a word: the low
+// end's, and ones where the high end's is another.
+#[derive(Drop)]
+pub struct Ends {
+    pub band: Band,
+    pub w: usize,
+    pub lows: [u64; 32],
+    pub apart: [u64; 32],
+    pub ghost few: { w ≤ 32 },
+    pub ghost masked: { Masked lows apart w band },
+}
+
+impl Ends {
+    pub fn new(band: Band, w: usize) -> Self
+        requires { w ≤ 32 }
+        ensures { (result.band ≡ band) × (result.w ≡ w) }
+    {
+        let low = bits_of(band.low);
+        let high = bits_of(band.high);
+        let mut lows = [0u64; 32];
+        let mut apart = [0u64; 32];
+        spread(low, w, &mut lows);
+        spread(low ^ high, w, &mut apart);
+        Self {
+            band,
+            w,
+            lows,
+            apart,
+        }
     }
 }

@@ -1,75 +1,47 @@
 // Four groups side by side while none of them is settled: their lanes go through the same steps.
 ghost use Rattle.std.specs.Prelude.{◌≡◌, ◌&&◌, ◌≤◌, ◌<◌, ltb, eqb, length, get_or};
-ghost use Rattle.vertical_planes.specs.Ends.{Masked, AllOrNone};
+ghost use Rattle.vertical_planes.specs.Ends.{AllOrNone};
 ghost use Rattle.vertical_planes.specs.Four.{stepped_four, four_compared};
 
+use crate::ends::Ends;
 use crate::groups::finish;
 use crate::lanes::{Lanes, begin, step};
-use compare::bands::Band;
 use rules::Compared;
 
-// How the lanes of each stand.
+// Something of each of four groups.
 #[derive(Clone, Copy)]
-pub struct Four {
-    pub first: Lanes,
-    pub second: Lanes,
-    pub third: Lanes,
-    pub fourth: Lanes,
-}
-
-// One plane of each.
-#[derive(Clone, Copy)]
-pub struct FourPlanes {
-    pub first: u64,
-    pub second: u64,
-    pub third: u64,
-    pub fourth: u64,
-}
-
-// What comparing each gives.
-#[derive(Clone, Copy)]
-pub struct FourCompared {
-    pub first: Compared,
-    pub second: Compared,
-    pub third: Compared,
-    pub fourth: Compared,
+pub struct Four<T> {
+    pub first: T,
+    pub second: T,
+    pub third: T,
+    pub fourth: T,
 }
 
 // Is some lane undecided in each.
-fn all_open(four: Four) -> bool
+fn all_open(four: Four<Lanes>) -> bool
     ensures { result ≡ (ltb 0 four.first.undecided
         && (ltb 0 four.second.undecided
         && (ltb 0 four.third.undecided && ltb 0 four.fourth.undecided))) }
 {
-    if four.first.undecided == 0 {
-        return false;
-    }
-    if four.second.undecided == 0 {
-        return false;
-    }
-    if four.third.undecided == 0 {
-        return false;
-    }
-    0 < four.fourth.undecided
+    0 < four.first.undecided
+        && 0 < four.second.undecided
+        && 0 < four.third.undecided
+        && 0 < four.fourth.undecided
 }
 
 // Are as many planes taken of each.
-fn in_step(four: Four) -> bool
+fn in_step(four: Four<Lanes>) -> bool
     ensures { result ≡ (eqb four.second.taken four.first.taken
         && (eqb four.third.taken four.first.taken
         && eqb four.fourth.taken four.first.taken)) }
 {
-    if four.second.taken != four.first.taken {
-        return false;
-    }
-    if four.third.taken != four.first.taken {
-        return false;
-    }
-    four.fourth.taken == four.first.taken
+    four.second.taken == four.first.taken
+        && four.third.taken == four.first.taken
+        && four.fourth.taken == four.first.taken
 }
 
 // One plane more of each.
-fn step_each(four: Four, planes: FourPlanes, low: u64, apart: u64) -> Four
+fn step_each(four: Four<Lanes>, planes: Four<u64>, low: u64, apart: u64) -> Four<Lanes>
     requires { (four.first.taken < 32) × (four.second.taken < 32) × (four.third.taken < 32)
         × (four.fourth.taken < 32) }
     ensures { result ≡ stepped_four four planes low apart }
@@ -83,26 +55,22 @@ fn step_each(four: Four, planes: FourPlanes, low: u64, apart: u64) -> Four
 }
 
 // The same. The ends' bits are one of four pairs, and with each of these the step is a few operations.
-fn step_four(four: Four, planes: FourPlanes, low: u64, apart: u64) -> Four
+fn step_four(four: Four<Lanes>, planes: Four<u64>, low: u64, apart: u64) -> Four<Lanes>
     requires few { (four.first.taken < 32) × (four.second.taken < 32) × (four.third.taken < 32)
         × (four.fourth.taken < 32) }
     requires laid { AllOrNone low × AllOrNone apart }
     ensures { result ≡ stepped_four four planes low apart }
 {
-    if low == 0 {
-        if apart == 0 {
-            return step_each(four, planes, 0, 0);
-        }
-        return step_each(four, planes, 0, u64::MAX);
+    match (low == 0, apart == 0) {
+        (true, true) => step_each(four, planes, 0, 0),
+        (true, false) => step_each(four, planes, 0, u64::MAX),
+        (false, true) => step_each(four, planes, u64::MAX, 0),
+        (false, false) => step_each(four, planes, u64::MAX, u64::MAX),
     }
-    if apart == 0 {
-        return step_each(four, planes, u64::MAX, 0);
-    }
-    step_each(four, planes, u64::MAX, u64::MAX)
 }
 
 // Plane i of each.
-fn planes_at(first: &[u64], second: &[u64], third: &[u64], fourth: &[u64], i: usize) -> FourPlanes
+fn planes_at(first: &[u64], second: &[u64], third: &[u64], fourth: &[u64], i: usize) -> Four<u64>
     requires { (i < length first.now) × (i < length second.now) × (i < length third.now)
         × (i < length fourth.now) }
     ensures { result ≡ record {
@@ -112,7 +80,7 @@ fn planes_at(first: &[u64], second: &[u64], third: &[u64], fourth: &[u64], i: us
       fourth = get_or fourth.now i 0;
     } }
 {
-    FourPlanes {
+    Four {
         first: first[i],
         second: second[i],
         third: third[i],
@@ -126,34 +94,30 @@ pub fn compare_four(
     second: &[u64],
     third: &[u64],
     fourth: &[u64],
-    band: Band,
-    lows: &[u64],
-    apart: &[u64],
-) -> FourCompared
-    requires few { (length first.now ≤ 32) × (length second.now ≡ length first.now)
-        × (length third.now ≡ length first.now) × (length fourth.now ≡ length first.now)
-        × (length first.now ≤ length lows.now) × (length first.now ≤ length apart.now) }
-    requires masked { Masked lows.now apart.now (length first.now) band }
+    ends: &Ends,
+) -> Four<Compared>
+    requires { (length first.now ≡ ends.now.w) × (length second.now ≡ ends.now.w)
+        × (length third.now ≡ ends.now.w) × (length fourth.now ≡ ends.now.w) }
     ensures { result ≡ four_compared first.now second.now third.now
-        fourth.now band }
+        fourth.now ends.now.band }
 {
     let mut four = Four {
-        first: begin(first, band, lows, apart),
-        second: begin(second, band, lows, apart),
-        third: begin(third, band, lows, apart),
-        fourth: begin(fourth, band, lows, apart),
+        first: begin(first, ends),
+        second: begin(second, ends),
+        third: begin(third, ends),
+        fourth: begin(fourth, ends),
     };
     if in_step(four) {
         while four.first.taken < first.len() && all_open(four) {
             let i = four.first.taken;
             let planes = planes_at(first, second, third, fourth, i);
-            four = step_four(four, planes, lows[i], apart[i]);
+            four = step_four(four, planes, ends.lows[i], ends.apart[i]);
         }
     }
-    FourCompared {
-        first: finish(first, band, lows, apart, four.first),
-        second: finish(second, band, lows, apart, four.second),
-        third: finish(third, band, lows, apart, four.third),
-        fourth: finish(fourth, band, lows, apart, four.fourth),
+    Four {
+        first: finish(first, ends, four.first),
+        second: finish(second, ends, four.second),
+        third: finish(third, ends, four.third),
+        fourth: finish(fourth, ends, four.fourth),
     }
 }

@@ -1,9 +1,9 @@
 // A group of 64 entries against a band: a plane is taken only while a lane is undecided against one of
 // its ends.
 ghost use Rattle.std.specs.Prelude.{◌≡◌, cond, ◌-◌, ◌^◌, ◌≤◌, length};
-ghost use Rattle.vertical_planes.specs.Ends.{Masked};
 ghost use Rattle.vertical_planes.specs.Standing.{band_compared, Standing};
 
+use crate::ends::Ends;
 use crate::lanes::{Lanes, begin, step};
 use compare::bands::Band;
 use rules::Compared;
@@ -27,31 +27,27 @@ fn told(band: Band, lanes: Lanes) -> Compared
 }
 
 // The planes that are left, as far as they are needed.
-pub fn finish(planes: &[u64], band: Band, lows: &[u64], apart: &[u64], lanes: Lanes) -> Compared
-    requires few { (length planes.now ≤ 32) × (length planes.now ≤ length lows.now)
-        × (length planes.now ≤ length apart.now) }
-    requires masked { Masked lows.now apart.now (length planes.now) band }
-    requires standing { Standing planes.now band lanes }
-    ensures { result ≡ band_compared planes.now band }
+pub fn finish(planes: &[u64], ends: &Ends, lanes: Lanes) -> Compared
+    requires size { length planes.now ≡ ends.now.w }
+    requires standing { Standing planes.now ends.now.band lanes }
+    ensures { result ≡ band_compared planes.now ends.now.band }
 {
     let mut left = lanes;
     while left.taken < planes.len() {
         if left.undecided == 0 {
-            return told(band, left);
+            return told(ends.band, left);
         }
         let i = left.taken;
-        left = step(left, planes[i], lows[i], apart[i]);
+        left = step(left, planes[i], ends.lows[i], ends.apart[i]);
     }
-    told(band, left)
+    told(ends.band, left)
 }
 
-// The planes of one group and the bits of both ends in; a bit for each lane that the band selects out, and how many
-// planes were taken.
-pub fn compare(planes: &[u64], band: Band, lows: &[u64], apart: &[u64]) -> Compared
-    requires few { (length planes.now ≤ 32) × (length planes.now ≤ length lows.now)
-        × (length planes.now ≤ length apart.now) }
-    requires masked { Masked lows.now apart.now (length planes.now) band }
-    ensures { result ≡ band_compared planes.now band }
+// The planes of one group and a band's ends in; a bit for each lane that the band selects out, and how many planes were
+// taken.
+pub fn compare(planes: &[u64], ends: &Ends) -> Compared
+    requires { length planes.now ≡ ends.now.w }
+    ensures { result ≡ band_compared planes.now ends.now.band }
 {
-    finish(planes, band, lows, apart, begin(planes, band, lows, apart))
+    finish(planes, ends, begin(planes, ends))
 }

@@ -1,10 +1,8 @@
 // The lanes of one group against a band, plane by plane, the highest first.
 ghost use Rattle.std.specs.Prelude.{◌≡◌, ◌≤◌, ◌<◌, length};
-ghost use Rattle.vertical_planes.specs.Ends.{Masked};
 ghost use Rattle.vertical_planes.specs.Standing.{stepped, Standing, StandsFor};
 
-use crate::ends::start;
-use compare::bands::Band;
+use crate::ends::{Ends, start};
 
 // How the 64 lanes stand to a band after the planes taken: undecided against one of its ends, of these against the
 // high one where `upper` has a bit, and known to be outside.
@@ -40,9 +38,8 @@ fn together(planes: &[u64], lows: &[u64], apart: &[u64]) -> Lanes
     ensures { StandsFor planes.now lows.now apart.now result }
 {
     let mut alike = u64::MAX;
-    let mut i: usize = 0;
-    while i < planes.len() {
-        let other = planes[i] ^ lows[i];
+    for (i, plane) in planes.iter().enumerate() {
+        let other = *plane ^ lows[i];
         if apart[i] != 0 {
             return Lanes {
                 undecided: alike,
@@ -51,14 +48,13 @@ fn together(planes: &[u64], lows: &[u64], apart: &[u64]) -> Lanes
                 taken: i + 1,
             };
         }
-        alike = alike & !other;
-        i += 1;
+        alike &= !other;
         if alike == 0 {
             return Lanes {
                 undecided: 0,
                 upper: 0,
                 outside: u64::MAX,
-                taken: i,
+                taken: i + 1,
             };
         }
     }
@@ -66,21 +62,19 @@ fn together(planes: &[u64], lows: &[u64], apart: &[u64]) -> Lanes
         undecided: alike,
         upper: 0,
         outside: !alike,
-        taken: i,
+        taken: planes.len(),
     }
 }
 
 // Up to where the ends part: before the first plane, if not both are within 0 to 2^w - 1.
-pub fn begin(planes: &[u64], band: Band, lows: &[u64], apart: &[u64]) -> Lanes
-    requires few { (length planes.now ≤ 32) × (length planes.now ≤ length lows.now)
-        × (length planes.now ≤ length apart.now) }
-    requires masked { Masked lows.now apart.now (length planes.now) band }
-    ensures { Standing planes.now band result }
+pub fn begin(planes: &[u64], ends: &Ends) -> Lanes
+    requires { length planes.now ≡ ends.now.w }
+    ensures { Standing planes.now ends.now.band result }
 {
-    let lower = start(band.low, planes.len());
-    let upper = start(band.high, planes.len());
+    let lower = start(ends.band.low, planes.len());
+    let upper = start(ends.band.high, planes.len());
     if lower.undecided & upper.undecided != 0 {
-        return together(planes, lows, apart);
+        return together(planes, &ends.lows, &ends.apart);
     }
     Lanes {
         undecided: lower.undecided | upper.undecided,

@@ -6,9 +6,5 @@ pub fn entries_in_group(n: usize, g: usize) -> usize
     requires { 64 * g ≤ n }
     ensures { result ≡ min 64 (n - 64 * g) }
 {
-    let left = n - 64 * g;
-    if left < 64 {
-        return left;
-    }
-    64
+    (n - 64 * g).min(64)
 }

@@ -9,10 +9,8 @@ fn all_planes(words: &[u64], at: usize, w: usize) -> u64
     ensures { result ≡ or_to words.now at w }
 {
     let mut all: u64 = 0;
-    let mut k: usize = 0;
-    while k < w {
-        all = all | words[at + k];
-        k += 1;
+    for word in &words[at..at + w] {
+        all |= *word;
     }
     all
 }
@@ -34,8 +32,9 @@ pub fn page_fault(words: &[u64], width: u32, n: usize) -> u32
     if rest == 0 {
         return 0;
     }
-    if 0 < all_planes(words, n / 64 * w, w) >> rest {
-        return 7;
+    if all_planes(words, n / 64 * w, w) >> rest > 0 {
+        7
+    } else {
+        0
     }
-    0
 }

@@ -22,12 +22,8 @@ fn group_bits(words: &[u64], w: usize, g: usize, band: Band) -> u64
     ensures { result ≡ lanes64 words.now (g * w) w band }
 {
     let at = g * w;
-    let end = at + w;
-    let inside = compare_group(&words[at..end], band.low, band.high);
-    if band.outside {
-        return !inside;
-    }
-    inside
+    let inside = compare_group(&words[at..at + w], band.low, band.high);
+    if band.outside { !inside } else { inside }
 }
 
 // The q groups that n fills, eight bytes each.
@@ -36,10 +32,8 @@ fn select_full(words: &[u64], w: usize, q: usize, band: Band, bitmap: &mut [u8])
     ensures { bitmap.new
         ≡ put bitmap.old 0 (chosen words.now (64 * q) w band) }
 {
-    let mut g: usize = 0;
-    while g < q {
+    for g in 0..q {
         store8(bitmap, 8 * g, group_bits(words, w, g, band));
-        g += 1;
     }
 }
 
@@ -92,8 +86,7 @@ pub fn scan(
     ensures { outcome result bitmap.new
         ≡ Vertical.scan words.now width n op a b bitmap.old }
 {
-    let arguments = arguments_of(width, n, op, a, b);
-    match arguments {
+    match arguments_of(width, n, op, a, b) {
         Arguments::Bad(code) => refused(code),
         Arguments::Good(band) => scan_band(words, width, n, band, bitmap),
     }

@@ -9,9 +9,7 @@ fn gather_one(entries: &[u32], low: usize, r: usize) -> u64
     ensures { result ≡ gathered entries.now low r }
 {
     let mut x: u64 = 0;
-    let mut b = (entries.len() + r) / 8;
-    while 0 < b {
-        b -= 1;
+    for b in (0..(entries.len() + r) / 8).rev() {
         let byte = (entries[8 * b + (7 - r)] >> low) % 256;
         x = x * 256 + byte as u64;
     }
@@ -24,9 +22,7 @@ pub fn gather(entries: &[u32], low: usize, words: &mut [u64])
     ensures { words.new
         ≡ put words.old 0 (tabulate 8 (gathered entries.now low)) }
 {
-    let mut r: usize = 0;
-    while r < 8 {
+    for r in 0..8 {
         words[r] = gather_one(entries, low, r);
-        r += 1;
     }
 }

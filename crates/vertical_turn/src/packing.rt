@@ -8,41 +8,27 @@ use crate::gathering::gather;
 use crate::turning::turn_one;
 
 // The n planes from plane k on that gathered words make, the highest bit's first.
-fn lay_few(words: &[u64], n: usize, k: usize, planes: &mut [u64])
+#[inline(always)]
+fn lay_each(words: &[u64], n: usize, k: usize, planes: &mut [u64])
     requires { (8 ≤ length words.now) × (n ≤ 8) × (k + n ≤ length planes.old) }
     ensures { planes.new
         ≡ put planes.old k (tabulate n (turned_down words.now n)) }
 {
-    let mut t: usize = 0;
-    while t < n {
+    for t in 0..n {
         planes[k + t] = turn_one(words, 0, 8, n - 1 - t);
-        t += 1;
     }
 }
 
-// The same of eight planes: a copy of its own, in which each turn is laid out.
-fn lay_eight(words: &[u64], k: usize, planes: &mut [u64])
-    requires { (8 ≤ length words.now) × (k + 8 ≤ length planes.old) }
-    ensures { planes.new
-        ≡ put planes.old k (tabulate 8 (turned_down words.now 8)) }
-{
-    let mut t: usize = 0;
-    while t < 8 {
-        planes[k + t] = turn_one(words, 0, 8, 7 - t);
-        t += 1;
-    }
-}
-
-// One or the other.
+// The same; eight planes have a copy of their own, in which each turn is laid out.
 fn lay(words: &[u64], n: usize, k: usize, planes: &mut [u64])
     requires { (8 ≤ length words.now) × (n ≤ 8) × (k + n ≤ length planes.old) }
     ensures { planes.new
         ≡ put planes.old k (tabulate n (turned_down words.now n)) }
 {
     if n == 8 {
-        lay_eight(words, k, planes);
+        lay_each(words, 8, k, planes);
     } else {
-        lay_few(words, n, k, planes);
+        lay_each(words, n, k, planes);
     }
 }
 
@@ -52,9 +38,7 @@ fn plane_of(entries: &[u32], w: usize, k: usize) -> u64
     ensures { result ≡ plane w entries.now 0 k }
 {
     let mut p: u64 = 0;
-    let mut j = entries.len();
-    while 0 < j {
-        j -= 1;
+    for j in (0..entries.len()).rev() {
         let x = entries[j] as u64;
         p = p * 2 + (x >> (w - 1 - k)) % 2;
     }
@@ -87,17 +71,18 @@ fn some_planes(entries: &[u32], w: usize, k: usize, n: usize, planes: &mut [u64]
     }
 }
 
-// The w planes of a group of at most 64 entries; a lane past them is 0. The first turn gives the planes
-// that are left over of eights.
+// The w planes of a group of at most 64 entries; a lane past them is 0. First come the planes that are left over
+// of eights.
 pub fn pack_group(entries: &[u32], w: usize, planes: &mut [u64])
     requires { (w ≤ 32) × (length entries.now ≤ 64) × (w ≤ length planes.old) }
     ensures { planes.new
         ≡ put planes.old 0 (tabulate w (plane w entries.now 0)) }
 {
-    let mut k: usize = 0;
-    while k < w {
-        let n = (w - k - 1) % 8 + 1;
-        some_planes(entries, w, k, n, planes);
-        k += n;
+    let rest = w % 8;
+    if rest > 0 {
+        some_planes(entries, w, 0, rest, planes);
+    }
+    for q in 0..w / 8 {
+        planes_together(entries, w, rest + 8 * q, 8, planes);
     }
 }

@@ -12,49 +12,33 @@ pub fn turn_one(words: &[u64], at: usize, n: usize, i: usize) -> u64
     ensures { result ≡ turned words.now at n i }
 {
     let mut x: u64 = 0;
-    let mut k: usize = 0;
-    while k < n {
-        x = x * 2 + ((words[at + k] >> i) & LOWEST);
-        k += 1;
+    for word in &words[at..at + n] {
+        x = x * 2 + ((*word >> i) & LOWEST);
     }
     x
 }
 
 // All eight words that n words make.
-fn turn_few(words: &[u64], at: usize, n: usize, out: &mut [u64])
+#[inline(always)]
+fn turn_each(words: &[u64], at: usize, n: usize, out: &mut [u64])
     requires { (at + n ≤ length words.now) × (n ≤ 8) × (8 ≤ length out.old) }
     ensures { out.new
         ≡ put out.old 0 (tabulate 8 (turned words.now at n)) }
 {
-    let mut i: usize = 0;
-    while i < 8 {
+    for i in 0..8 {
         out[i] = turn_one(words, at, n, i);
-        i += 1;
     }
 }
 
-// The same of eight words: a copy of its own, in which each turn is laid out.
-fn turn_eight(words: &[u64], at: usize, out: &mut [u64])
-    requires { (at + 8 ≤ length words.now) × (8 ≤ length out.old) }
-    ensures { out.new
-        ≡ put out.old 0 (tabulate 8 (turned words.now at 8)) }
-{
-    let mut i: usize = 0;
-    while i < 8 {
-        out[i] = turn_one(words, at, 8, i);
-        i += 1;
-    }
-}
-
-// One or the other.
+// The same; eight words have a copy of their own, in which each turn is laid out.
 pub fn turn(words: &[u64], at: usize, n: usize, out: &mut [u64])
     requires { (at + n ≤ length words.now) × (n ≤ 8) × (8 ≤ length out.old) }
     ensures { out.new
         ≡ put out.old 0 (tabulate 8 (turned words.now at n)) }
 {
     if n == 8 {
-        turn_eight(words, at, out);
+        turn_each(words, at, 8, out);
     } else {
-        turn_few(words, at, n, out);
+        turn_each(words, at, n, out);
     }
 }

@@ -14,11 +14,9 @@ fn row(words: &[u64], from: usize, n: usize, entries: &mut [u32])
         ≡ put entries.old from
         (tabulate n (grown_row words.now entries.old from)) }
 {
-    let mut i: usize = 0;
-    while i < n {
+    for i in 0..n {
         let byte = (words[i] >> from) % 256;
         entries[from + i] = entries[from + i] % 16777216 * 256 + byte as u32;
-        i += 1;
     }
 }
 
@@ -29,12 +27,10 @@ fn rows(words: &[u64], m: usize, entries: &mut [u32])
         ≡ put entries.old 0
         (tabulate m (grown words.now entries.old)) }
 {
-    let mut from: usize = 0;
-    while from + 8 <= m {
-        row(words, from, 8, entries);
-        from += 8;
+    for q in 0..m / 8 {
+        row(words, 8 * q, 8, entries);
     }
-    row(words, from, m - from, entries);
+    row(words, m / 8 * 8, m % 8, entries);
 }
 
 // What the n planes from plane `at` on add to each entry.
@@ -55,15 +51,11 @@ fn clear(m: usize, entries: &mut [u32])
     requires { m ≤ length entries.old }
     ensures { entries.new ≡ put entries.old 0 (tabulate m (λ j. 0)) }
 {
-    let mut j: usize = 0;
-    while j < m {
-        entries[j] = 0;
-        j += 1;
-    }
+    entries[..m].fill(0);
 }
 
-// The first m entries of a group's planes, into the first m places. The first turn takes the planes that
-// are left over of eights.
+// The first m entries of a group's planes, into the first m places. First come the planes that are left over of
+// eights.
 pub fn unpack_group(planes: &[u64], m: usize, entries: &mut [u32])
     requires { (length planes.now ≤ 32) × (m ≤ 64) × (m ≤ length entries.old) }
     ensures { entries.new
@@ -71,10 +63,11 @@ pub fn unpack_group(planes: &[u64], m: usize, entries: &mut [u32])
         (tabulate m (lane planes.now 0 (length planes.now))) }
 {
     clear(m, entries);
-    let mut at: usize = 0;
-    while at < planes.len() {
-        let n = (planes.len() - at - 1) % 8 + 1;
-        add_planes(planes, at, n, m, entries);
-        at += n;
+    let rest = planes.len() % 8;
+    if rest > 0 {
+        add_planes(planes, 0, rest, m, entries);
+    }
+    for q in 0..planes.len() / 8 {
+        add_planes(planes, rest + 8 * q, 8, m, entries);
     }
 }

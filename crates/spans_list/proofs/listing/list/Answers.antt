@@ -19,7 +19,7 @@ use Rattle.spans_list.proofs.listing.list.Goals as goal
 
 pub loop-q-init : goal.loop-q-init
 unfolding turned
-loop-q-init c = (omega arith, refl, put-none _ 0, refl)
+loop-q-init c = (refl, put-none _ 0)
 
 -- whether a stretch is open in front of the next word
 carry : (test : ℕ → Bool) (q : ℕ) {at : ℕ} → at ≡ length (turned test (64 * q) 0)
@@ -60,17 +60,12 @@ next bits n {before} {places} {at} q x few room within counted put_so long is =
       asked = (omega arith, omega (arith, opened, front_le t (64 * q)), omega (arith, count, enough, long));
     }
 
--- the last word, whose end may lie past n
-final : (bits : List ℕ) (n q : ℕ) {x : ℕ} → x ≡ word 64 (λ j. selected bits n (64 * (n / 64) + j)) → n / 64 ≡ q
-    → x ≡ word 64 (λ j. selected bits n (64 * q + j))
-final bits n q is at = is ∙ ap (λ (q : ℕ). word 64 (λ j. selected bits n (64 * q + j))) at
-
 pub put_turns-at-requires : goal.put_turns-at-requires
 put_turns-at-requires c =
     let a = c.args in
     let l = c.loop-q in
     let v = l.invariant in
-    (next a.bitmap.now a.n l.q c.load8.result c.requires.0 c.requires.2 (omega arith) v.1 v.2 v.3
+    (next a.bitmap.now a.n l.q c.load8.result c.requires.0 c.requires.2 (omega arith) v.0 v.1 l.auto.places
     (selected-whole a.bitmap.now (λ i. (c.type_inv.bitmap i).fits) a.n l.q c.load8.result (omega arith)
     c.load8.ensures (omega (arith, c.loop-q-test.true)))).asked
 
@@ -79,32 +74,30 @@ loop-q-preserved c =
     let a = c.args in
     let l = c.loop-q in
     let v = l.invariant in
-    let n = next a.bitmap.now a.n l.q c.load8.result c.requires.0 c.requires.2 (omega arith) v.1 v.2 v.3
+    let n = next a.bitmap.now a.n l.q c.load8.result c.requires.0 c.requires.2 (omega arith) v.0 v.1 l.auto.places
     (selected-whole a.bitmap.now (λ i. (c.type_inv.bitmap i).fits) a.n l.q c.load8.result (omega arith)
     c.load8.ensures (omega (arith, c.loop-q-test.true))) in
-    let at : 64 * (l.q + 1) ≡ 64 * l.q + 64 = omega arith in (
-      omega (arith, c.loop-q-test.true),
-      rw at (c.put_turns-at.ensures.place ∙ n.count),
-      rw at (c.put_turns-at.ensures.wrote ∙ n.stored),
-      c.put_turns-at.auto.places ∙ v.3,
-    )
+    let at : 64 * (l.q + 1) ≡ 64 * l.q + 64 = omega arith in
+    rw at (c.put_turns-at.ensures.place ∙ n.count, c.put_turns-at.ensures.wrote ∙ n.stored)
 
 pub put_turns-requires : goal.put_turns-requires
 put_turns-requires c =
     let a = c.args in
     let l = c.loop-q in
-    let v = l.invariant in
-    (next a.bitmap.now a.n l.q c.last_word.result c.requires.0 c.requires.2 (omega arith) v.1 v.2 v.3
-    (final a.bitmap.now a.n l.q c.last_word.ensures (omega (arith, v.0, c.loop-q-test.false)))).asked
+    let e : l.q ≡ a.n / 64 = omega arith in
+    let v = rw e at l.invariant in
+    (next a.bitmap.now a.n (a.n / 64) c.last_word.result c.requires.0 c.requires.2 (omega arith) v.0 v.1
+    l.auto.places c.last_word.ensures).asked
 
 pub returns : goal.returns
 returns c =
     let a = c.args in
     let l = c.loop-q in
-    let v = l.invariant in
-    let n = next a.bitmap.now a.n l.q c.last_word.result c.requires.0 c.requires.2 (omega arith) v.1 v.2 v.3
-    (final a.bitmap.now a.n l.q c.last_word.ensures (omega (arith, v.0, c.loop-q-test.false))) in
-    let all = turned-spans a.bitmap.now a.n (64 * l.q + 64) (omega (arith, c.loop-q-test.false)) in
+    let e : l.q ≡ a.n / 64 = omega arith in
+    let v = rw e at l.invariant in
+    let n = next a.bitmap.now a.n (a.n / 64) c.last_word.result c.requires.0 c.requires.2 (omega arith) v.0 v.1
+    l.auto.places c.last_word.ensures in
+    let all = turned-spans a.bitmap.now a.n (64 * (a.n / 64) + 64) (omega arith) in
     record {
       count = c.put_turns.ensures.place ∙ n.count ∙ ap length all;
       wrote = c.put_turns.ensures.wrote ∙ n.stored ∙ ap (put a.places.now 0) all;

@@ -1,6 +1,6 @@
 -- `spans_list::listing::list` meets its contract. The loop's invariant: the edges of the words passed are in place.
 use mathlib.Core.Path.{◌≡◌}
-use Prim.Native.Nat.{◌-◌, ◌*◌, ◌/◌, ◌≤◌}
+use Prim.Native.Nat.{◌*◌}
 use lib.ListN.{length}
 use Rattle.rules.specs.Bits.{put}
 use Rattle.rules.specs.Spans.{selected}
@@ -9,9 +9,5 @@ use Rattle.spans_list.proofs.listing.list.Given as goal
 
 abbrev pub invariant-loop-q : goal.invariant-loop-q
 invariant-loop-q l =
-    (l.q ≤ l.n / 64) × (l.at ≡ length (turned (selected l.bitmap l.n) (64 * l.q) 0))
+    (l.at ≡ length (turned (selected l.bitmap l.n) (64 * l.q) 0))
     × (l.places ≡ put l.initial.places 0 (turned (selected l.bitmap l.n) (64 * l.q) 0))
-    × (length l.places ≡ length l.initial.places)
-
-abbrev pub decreases-loop-q : goal.decreases-loop-q
-decreases-loop-q l = l.n / 64 - l.q

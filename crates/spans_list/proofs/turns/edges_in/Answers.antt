@@ -2,7 +2,6 @@
 -- counted, and the carry is the last entry passed.
 use mathlib.Core.Path.{◌≡◌, refl, ap, ◌∙◌}
 use mathlib.Core.Bool.{Bool}
-use mathlib.Core.List.{List}
 use Prim.Native.Nat.{ℕ, ◌+◌, ◌*◌, ◌/◌, ◌%◌, ◌^◌, ◌≤◌}
 use native.Mathlib.Omega.{arith}
 use lib.Bits.{bit_xor}
@@ -17,7 +16,7 @@ use Rattle.spans_list.proofs.turns.edges_in.Goals as goal
 
 pub loop-q-init : goal.loop-q-init
 unfolding turned in_front
-loop-q-init c = (omega arith, refl, refl)
+loop-q-init c = (refl, refl)
 
 -- the words passed have few edges
 passed : (test : ℕ → Bool) (q : ℕ) {count carry : ℕ} → count ≡ length (turned test (64 * q) 0)
@@ -34,11 +33,6 @@ next test q {carry = carry} x r counted opened is e =
     let edges = ap ones e ∙ turns-count test (64 * q) x carry is opened in
     (omega (arith, edges, counted, turned_more test (64 * q)), omega (arith, edges, turned-few test 64 (64 * q)))
 
--- the last word, whose end may lie past n
-final : (bits : List ℕ) (n q : ℕ) {x : ℕ} → x ≡ word 64 (λ j. selected bits n (64 * (n / 64) + j)) → n / 64 ≡ q
-    → x ≡ word 64 (λ j. selected bits n (64 * q + j))
-final bits n q is at = is ∙ ap (λ (q : ℕ). word 64 (λ j. selected bits n (64 * q + j))) at
-
 pub overflow_add-count : goal.overflow_add-count
 overflow_add-count c =
     let a = c.args in
@@ -48,8 +42,8 @@ overflow_add-count c =
     c.load8-x.ensures (omega (arith, c.loop-q-test.true)) in
     omega (
       arith,
-      next (selected a.bitmap.now a.n) l.q c.load8-x.result c.turns.result v.1 v.2 whole c.turns.ensures,
-      passed (selected a.bitmap.now a.n) l.q v.1 v.2,
+      next (selected a.bitmap.now a.n) l.q c.load8-x.result c.turns.result v.0 v.1 whole c.turns.ensures,
+      passed (selected a.bitmap.now a.n) l.q v.0 v.1,
     )
 
 pub loop-q-preserved : goal.loop-q-preserved
@@ -60,28 +54,29 @@ loop-q-preserved c =
     let t = selected a.bitmap.now a.n in
     let whole = selected-whole a.bitmap.now (λ i. (c.type_inv.bitmap i).fits) a.n l.q c.load8-x.result (omega arith)
     c.load8-x.ensures (omega (arith, c.loop-q-test.true)) in
-    let here = next t l.q c.load8-x.result c.turns.result v.1 v.2 whole c.turns.ensures in
+    let here = next t l.q c.load8-x.result c.turns.result v.0 v.1 whole c.turns.ensures in
     let at : 64 * (l.q + 1) ≡ 64 * l.q + 64 = omega arith in (
-      omega arith,
       rw at here.0,
-      rw at (next_carry t (64 * l.q) c.load8-x.result l.carry whole v.2),
+      rw at (next_carry t (64 * l.q) c.load8-x.result l.carry whole v.1),
     )
 
 pub overflow_add-result : goal.overflow_add-result
 overflow_add-result c =
     let a = c.args in
-    let l = c.loop-q in
-    let v = l.invariant in
     let t = selected a.bitmap.now a.n in
-    let last = final a.bitmap.now a.n l.q c.last_word.ensures (omega (arith, v.0, c.loop-q-test.false)) in
-    omega (arith, next t l.q c.last_word.result c.turns-2.result v.1 v.2 last c.turns-2.ensures, passed t l.q v.1 v.2)
+    let e : c.loop-q.q ≡ a.n / 64 = omega arith in
+    let v = rw e at c.loop-q.invariant in
+    omega (
+      arith,
+      next t (a.n / 64) c.last_word.result c.turns-2.result v.0 v.1 c.last_word.ensures c.turns-2.ensures,
+      passed t (a.n / 64) v.0 v.1,
+    )
 
 pub returns : goal.returns
 returns c =
     let a = c.args in
-    let l = c.loop-q in
-    let v = l.invariant in
     let t = selected a.bitmap.now a.n in
-    let last = final a.bitmap.now a.n l.q c.last_word.ensures (omega (arith, v.0, c.loop-q-test.false)) in
-    (next t l.q c.last_word.result c.turns-2.result v.1 v.2 last c.turns-2.ensures).0
-    ∙ ap length (turned-spans a.bitmap.now a.n (64 * l.q + 64) (omega (arith, c.loop-q-test.false)))
+    let e : c.loop-q.q ≡ a.n / 64 = omega arith in
+    let v = rw e at c.loop-q.invariant in
+    (next t (a.n / 64) c.last_word.result c.turns-2.result v.0 v.1 c.last_word.ensures c.turns-2.ensures).0
+    ∙ ap length (turned-spans a.bitmap.now a.n (64 * (a.n / 64) + 64) (omega arith))

@@ -1,7 +1,7 @@
 -- `spans_list::turns::edges_in` meets its contract. The loop's invariant: the edges of the words passed are
 -- counted, and the carry is the last entry passed.
 use mathlib.Core.Path.{◌≡◌}
-use Prim.Native.Nat.{◌-◌, ◌*◌, ◌/◌, ◌≤◌}
+use Prim.Native.Nat.{◌*◌}
 use lib.ListN.{length}
 use Rattle.rules.specs.Bits.{flag}
 use Rattle.rules.specs.Spans.{selected}
@@ -10,8 +10,5 @@ use Rattle.spans_list.proofs.turns.edges_in.Given as goal
 
 abbrev pub invariant-loop-q : goal.invariant-loop-q
 invariant-loop-q l =
-    (l.q ≤ l.n / 64) × (l.count ≡ length (turned (selected l.bitmap l.n) (64 * l.q) 0))
+    (l.count ≡ length (turned (selected l.bitmap l.n) (64 * l.q) 0))
     × (l.carry ≡ flag (in_front (selected l.bitmap l.n) (64 * l.q)))
-
-abbrev pub decreases-loop-q : goal.decreases-loop-q
-decreases-loop-q l = l.n / 64 - l.q

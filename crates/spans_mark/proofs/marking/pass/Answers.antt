@@ -14,7 +14,7 @@ unfolding filled
 loop-q-init c =
     let a = c.args in
     let none : a.at - a.at ≡ 0 = omega arith in
-    (omega arith, omega arith, rw none refl, rw none (put-none a.bitmap.now (8 * a.at)), refl)
+    (rw none refl, rw none (put-none a.bitmap.now (8 * a.at)))
 
 pub loop-q-preserved : goal.loop-q-preserved
 loop-q-preserved c =
@@ -23,20 +23,17 @@ loop-q-preserved c =
     let s = st in
     let a = s.args in
     let k = l.q - a.at in
-    let up : l.q + 1 - a.at ≡ k + 1 = omega (arith, l.invariant.0) in
+    let up : l.q + 1 - a.at ≡ k + 1 = omega arith in
     let place : 8 * l.q ≡ 8 * a.at + length (filled k a.x a.rest) =
-    omega (arith, l.invariant.0, length-filled k a.x a.rest) in
+    omega (arith, length-filled k a.x a.rest) in
     let stored : st.store8.new.s ≡ put l.bitmap (8 * l.q) (bytes 8 (passed k a.x a.rest)) =
-    st.store8.ensures ∙ ap (λ (y : ℕ). put l.bitmap (8 * l.q) (bytes 8 y)) l.invariant.2 in (
-      omega (arith, l.invariant.0),
-      omega arith,
+    st.store8.ensures ∙ ap (λ (y : ℕ). put l.bitmap (8 * l.q) (bytes 8 y)) l.invariant.0 in (
       rw up (sym (passed-more k a.x a.rest)),
       rw up
           (put-behind a.bitmap.now (8 * a.at) (filled k a.x a.rest) (bytes 8 (passed k a.x a.rest))
-          l.invariant.3 place
+          l.invariant.1 place
           stored (omega (arith, place, s.requires.2, length-bytes 8 (passed k a.x a.rest)))
           ∙ ap (put a.bitmap.now (8 * a.at)) (sym (filled_more k a.x a.rest))),
-      st.store8.auto.s ∙ l.invariant.4,
     )
 
 pub returns : goal.returns
@@ -45,7 +42,7 @@ returns c =
     let a = c.args in
     let end : l.q ≡ a.to = omega arith in
     record {
-      word = l.invariant.2 ∙ ap (λ (q : ℕ). passed (q - a.at) a.x a.rest) end;
-      wrote = l.invariant.3
+      word = l.invariant.0 ∙ ap (λ (q : ℕ). passed (q - a.at) a.x a.rest) end;
+      wrote = l.invariant.1
           ∙ ap (λ (q : ℕ). put a.bitmap.now (8 * a.at) (filled (q - a.at) a.x a.rest)) end;
     }

@@ -8,6 +8,6 @@ pub returns-then-end-left-eq1 : goal.returns-then-end-left-eq1
 unfolding stepped bit
 returns-then-end-left-eq1 c = rw (eq-eqb _ _ c.if-end-left-eq1.true)
 
-pub returns : goal.returns
+pub returns-else-end-left-eq1 : goal.returns-else-end-left-eq1
 unfolding stepped bit
-returns c = rw (ne_eqb _ _ c.if-end-left-eq1.false)
+returns-else-end-left-eq1 c = rw (ne_eqb _ _ c.if-end-left-eq1.false)

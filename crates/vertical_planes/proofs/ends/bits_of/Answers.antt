@@ -26,8 +26,8 @@ overflow_cast-result c =
     let fits = whole z (2 ^ 63) not-below c.ranges.constant.sfits in
     rw back (fits.0, omega (arith, fits.1))
 
-pub returns : goal.returns
-returns c =
+pub returns-else-constant-lt0 : goal.returns-else-constant-lt0
+returns-else-constant-lt0 c =
     let z = c.args.constant in
     let back : to_z w64 (of_z w64 z) ≡ z = to_z-of_z w64 z c.ranges.constant in
     let not-below : lt_z z (pos 0) ≡ false = rw back at c.if-constant-lt0.false in

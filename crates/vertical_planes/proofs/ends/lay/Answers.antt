@@ -8,6 +8,6 @@ pub returns-then-c-k-eq1 : goal.returns-then-c-k-eq1
 unfolding laid bit
 returns-then-c-k-eq1 c = rw (eq-eqb _ _ c.if-c-k-eq1.true)
 
-pub returns : goal.returns
+pub returns-else-c-k-eq1 : goal.returns-else-c-k-eq1
 unfolding laid bit
-returns c = rw (ne_eqb _ _ c.if-c-k-eq1.false)
+returns-else-c-k-eq1 c = rw (ne_eqb _ _ c.if-c-k-eq1.false)

@@ -2,24 +2,11 @@
 use mathlib.Core.Path.{refl, sym, ap, ◌∙◌}
 use Prim.Native.Nat.{ℕ, ◌+◌, ◌^◌, ◌<◌}
 use native.Mathlib.Omega.{arith}
-use lib.ListN.{length}
 use Rattle.vertical_planes.specs.Standing.{stepped, Standing}
 use Rattle.vertical_planes.specs.FourNext.{in_step, all_open, all_or_none, next_of}
 use Rattle.vertical_planes.proofs.four.compare_four.Goals as goal
 use Rattle.vertical_planes.proofs.four.compare_four.Goals.{then-in_step+then-loop-four-test+else-all_open}
 use Rattle.vertical_planes.proofs.four.compare_four.Goals.{then-in_step+else-loop-four-test, else-in_step}
-
-pub begin-requires : goal.begin-requires
-begin-requires c = record { few = omega arith; masked = c.requires.masked }
-
-pub begin-requires-2 : goal.begin-requires-2
-begin-requires-2 c = record { few = omega arith; masked = rw c.requires.few.1 c.requires.masked }
-
-pub begin-requires-3 : goal.begin-requires-3
-begin-requires-3 c = record { few = omega arith; masked = rw c.requires.few.2 c.requires.masked }
-
-pub begin-requires-4 : goal.begin-requires-4
-begin-requires-4 c = record { few = omega arith; masked = rw c.requires.few.3 c.requires.masked }
 
 pub loop-four-init : goal.loop-four-init
 loop-four-init c = (
@@ -30,13 +17,14 @@ loop-four-init c = (
 pub step_four-four-requires : goal.step_four-four-requires
 step_four-four-requires c =
     let same = c.loop-four.invariant.0 in
-    let more = c.loop-four-test.true in
     let i = c.loop-four.four.first.taken in
+    let more : i < c.args.ends.now.w = omega (arith, c.loop-four-test.true, c.requires.0) in
+    let masked = c.args.ends.now.masked in
     record {
       few = omega (arith, same);
       laid = (
-        all_or_none _ _ _ (c.requires.masked.0 i more),
-        all_or_none _ _ _ (c.requires.masked.1 i more),
+        all_or_none _ _ _ (masked.0 i more),
+        all_or_none _ _ _ (masked.1 i more),
       );
     }
 
@@ -52,24 +40,24 @@ loop-four-preserved c =
     let i = f.first.taken in
     let same = c.loop-four.invariant.0 in
     let stand = c.loop-four.invariant.1 in
-    let more = c.loop-four-test.true in
+    let more : i < a.ends.now.w = omega (arith, c.loop-four-test.true, c.requires.0) in
     let some : (0 < f.first.undecided) × (0 < f.second.undecided) × (0 < f.third.undecided)
     × (0 < f.fourth.undecided) =
     all_open f.first.undecided f.second.undecided f.third.undecided f.fourth.undecided (cc) in
     let upper : (f.first.upper < 2 ^ 64) × (f.second.upper < 2 ^ 64) × (f.third.upper < 2 ^ 64)
     × (f.fourth.upper < 2 ^ 64) = (omega arith, omega arith, omega arith, omega arith) in
-    let w = length a.first.now in
-    let masked = c.requires.masked in
+    let w = a.ends.now.w in
+    let masked = c.args.ends.now.masked in
     rw (c.step_four-four.ensures, c.planes_at-planes.ensures) (
       (ap (λ (k : ℕ). k + 1) same.0, ap (λ (k : ℕ). k + 1) same.1, ap (λ (k : ℕ). k + 1) same.2),
       (
-        next_of a.first.now a.lows.now a.apart.now a.band w i refl more masked
+        next_of a.first.now a.ends.now.lows a.ends.now.apart a.ends.now.band w i c.requires.0 more masked
             f.first refl some.0 (c.type_inv.first i).fits upper.0 stand.0,
-        next_of a.second.now a.lows.now a.apart.now a.band w i c.requires.few.1 more masked
+        next_of a.second.now a.ends.now.lows a.ends.now.apart a.ends.now.band w i c.requires.1 more masked
             f.second same.0 some.1 (c.type_inv.second i).fits upper.1 stand.1,
-        next_of a.third.now a.lows.now a.apart.now a.band w i c.requires.few.2 more masked
+        next_of a.third.now a.ends.now.lows a.ends.now.apart a.ends.now.band w i c.requires.2 more masked
             f.third same.1 some.2 (c.type_inv.third i).fits upper.2 stand.2,
-        next_of a.fourth.now a.lows.now a.apart.now a.band w i c.requires.few.3 more masked
+        next_of a.fourth.now a.ends.now.lows a.ends.now.apart a.ends.now.band w i c.requires.3 more masked
             f.fourth same.2 some.3 (c.type_inv.fourth i).fits upper.3 stand.3,
       ),
     )
@@ -77,46 +65,46 @@ loop-four-preserved c =
 pub finish-requires : goal.finish-requires
 finish-requires c =
     let a = c.args in
-    let standing : Standing a.first.now a.band c.if-in_step.four.first =
+    let standing : Standing a.first.now a.ends.now.band c.if-in_step.four.first =
     elim c.if-in_step.branch [
       | then-in_step+then-loop-four-test+else-all_open w ↦ rw w.four-is w.loop-four.invariant.1.0
       | then-in_step+else-loop-four-test w ↦ rw w.four-is w.loop-four.invariant.1.0
       | else-in_step w ↦ rw w.four-is c.begin.ensures
     ] in
-    record { few = omega arith; masked = c.requires.masked; standing = standing }
+    record { size = omega arith; standing = standing }
 
 pub finish-requires-2 : goal.finish-requires-2
 finish-requires-2 c =
     let a = c.args in
-    let standing : Standing a.second.now a.band c.if-in_step.four.second =
+    let standing : Standing a.second.now a.ends.now.band c.if-in_step.four.second =
     elim c.if-in_step.branch [
       | then-in_step+then-loop-four-test+else-all_open w ↦ rw w.four-is w.loop-four.invariant.1.1
       | then-in_step+else-loop-four-test w ↦ rw w.four-is w.loop-four.invariant.1.1
       | else-in_step w ↦ rw w.four-is c.begin-2.ensures
     ] in
-    record { few = omega arith; masked = rw c.requires.few.1 c.requires.masked; standing = standing }
+    record { size = omega arith; standing = standing }
 
 pub finish-requires-3 : goal.finish-requires-3
 finish-requires-3 c =
     let a = c.args in
-    let standing : Standing a.third.now a.band c.if-in_step.four.third =
+    let standing : Standing a.third.now a.ends.now.band c.if-in_step.four.third =
     elim c.if-in_step.branch [
       | then-in_step+then-loop-four-test+else-all_open w ↦ rw w.four-is w.loop-four.invariant.1.2
       | then-in_step+else-loop-four-test w ↦ rw w.four-is w.loop-four.invariant.1.2
       | else-in_step w ↦ rw w.four-is c.begin-3.ensures
     ] in
-    record { few = omega arith; masked = rw c.requires.few.2 c.requires.masked; standing = standing }
+    record { size = omega arith; standing = standing }
 
 pub finish-requires-4 : goal.finish-requires-4
 finish-requires-4 c =
     let a = c.args in
-    let standing : Standing a.fourth.now a.band c.if-in_step.four.fourth =
+    let standing : Standing a.fourth.now a.ends.now.band c.if-in_step.four.fourth =
     elim c.if-in_step.branch [
       | then-in_step+then-loop-four-test+else-all_open w ↦ rw w.four-is w.loop-four.invariant.1.3
       | then-in_step+else-loop-four-test w ↦ rw w.four-is w.loop-four.invariant.1.3
       | else-in_step w ↦ rw w.four-is c.begin-4.ensures
     ] in
-    record { few = omega arith; masked = rw c.requires.few.3 c.requires.masked; standing = standing }
+    record { size = omega arith; standing = standing }
 
 pub returns : goal.returns
 returns c = rw (c.finish.ensures, c.finish-2.ensures, c.finish-3.ensures, c.finish-4.ensures)

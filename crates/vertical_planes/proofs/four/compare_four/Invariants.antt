@@ -7,7 +7,7 @@ use Rattle.vertical_planes.proofs.four.compare_four.Given as goal
 
 abbrev pub invariant-loop-four : goal.invariant-loop-four
 invariant-loop-four l =
-    InStep l.four × FourStanding l.first l.second l.third l.fourth l.band l.four
+    InStep l.four × FourStanding l.first l.second l.third l.fourth l.ends.band l.four
 
 abbrev pub decreases-loop-four : goal.decreases-loop-four
 decreases-loop-four l = length l.first - l.four.first.taken

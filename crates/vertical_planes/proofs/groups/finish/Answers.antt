@@ -23,12 +23,13 @@ loop-left-preserved c =
     let a = c.args in
     let l = c.loop-left in
     let k = l.left.taken in
-    let more = c.loop-left-test.true in
+    let more : k < a.ends.now.w = omega (arith, c.loop-left-test.true, c.requires.size) in
+    let masked = c.args.ends.now.masked in
     let upper : l.left.upper < 2 ^ 64 = omega arith in
     rw c.step-left.ensures
-    (standing_next a.planes.now a.band l.left l.invariant more (omega arith)
+    (standing_next a.planes.now a.ends.now.band l.left l.invariant c.loop-left-test.true (omega arith)
     (c.type_inv.planes k).fits upper
-    _ _ _ refl (c.requires.masked.0 k more) (c.requires.masked.1 k more))
+    _ _ _ refl (rw c.requires.size (masked.0 k more)) (rw c.requires.size (masked.1 k more)))
 
 pub returns : goal.returns
 returns c = c.told-2.ensures ∙ told_all _ _ c.loop-left.left c.loop-left.invariant c.loop-left-test.false

@@ -26,7 +26,7 @@ returns-then-apart-i-ne0 c band masked w =
     let a = c.args in
     let l = c.loop-i in
     parted a.planes.now a.lows.now a.apart.now band masked _ _
-    c.loop-i-test.true (omega (arith, c.type_inv.planes l.i))
+    (omega arith) (omega (arith, c.type_inv.planes l.i))
     l.invariant.0 (l.invariant.1 band masked w) c.if-apart-i-ne0.true
 
 pub returns-then-alike-eq0 : goal.returns-then-alike-eq0
@@ -34,7 +34,7 @@ returns-then-alike-eq0 c band masked w =
     let a = c.args in
     let l = c.loop-i in
     let turned =
-    turned_next a.planes.now a.lows.now a.apart.now l.i l.alike c.loop-i-test.true
+    turned_next a.planes.now a.lows.now a.apart.now l.i l.alike (omega arith)
     (omega (arith, c.type_inv.planes l.i)) l.invariant.0 l.invariant.1 c.if-apart-i-ne0.false in
     together_told _ _ _ _ (rw c.if-alike-eq0.true at (turned band masked w)) (λ _. refl)
 
@@ -43,10 +43,11 @@ loop-i-preserved c =
     let a = c.args in
     let l = c.loop-i in
     let turned =
-    turned_next a.planes.now a.lows.now a.apart.now l.i l.alike c.loop-i-test.true
+    turned_next a.planes.now a.lows.now a.apart.now l.i l.alike (omega arith)
     (omega (arith, c.type_inv.planes l.i)) l.invariant.0 l.invariant.1 c.if-apart-i-ne0.false in
     (omega (arith, c.if-alike-eq0.false), turned)
 
 pub returns : goal.returns
 returns c band masked w =
-    together_told _ _ _ _ (c.loop-i.invariant.1 band masked w) (λ more. absurd (omega arith))
+    let all : c.loop-i.i ≡ length c.args.planes.now = omega arith in
+    rw (← all) (together_told _ _ _ _ (c.loop-i.invariant.1 band masked w) (λ more. absurd (omega arith)))

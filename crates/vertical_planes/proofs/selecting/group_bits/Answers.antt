@@ -9,13 +9,13 @@ use Rattle.vertical_planes.proofs.selecting.group_bits.Goals as goal
 pub compare-requires : goal.compare-requires
 compare-requires c =
     let a = c.args in
-    let at = a.g * a.w in
-    rw (part_length a.words.now at (at + a.w) a.w (omega arith) (omega arith))
-    (record { few = omega arith; masked = c.requires.masked })
+    let at = a.g * a.ends.now.w in
+    rw (part_length a.words.now at (at + a.ends.now.w) a.ends.now.w (omega arith) (omega arith))
+    (omega arith)
 
 pub returns : goal.returns
 returns c =
     let a = c.args in
-    let at = a.g * a.w in
+    let at = a.g * a.ends.now.w in
     ap (λ (r : Compared). r.bits) c.compare.ensures
-    ∙ part_bits a.words.now at (at + a.w) a.w a.band (omega arith) (omega arith)
+    ∙ part_bits a.words.now at (at + a.ends.now.w) a.ends.now.w a.ends.now.band (omega arith) (omega arith)

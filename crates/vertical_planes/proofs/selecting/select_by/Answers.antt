@@ -15,24 +15,18 @@ use Rattle.vertical_planes.proofs.selecting.select_by.Goals as goal
 pub select_full-requires : goal.select_full-requires
 select_full-requires c =
     let a = c.args in
-    record {
-      few = omega (arith, mul-le-mul_right {m = a.n / 64} {n = ceil a.n 64} a.w (omega arith));
-      masked = c.requires.masked;
-    }
+    omega (arith, mul-le-mul_right {m = a.n / 64} {n = ceil a.n 64} a.ends.now.w (omega arith))
 
 pub returns-then-rest-eq0 : goal.returns-then-rest-eq0
 returns-then-rest-eq0 c =
     let a = c.args in
     let all : 64 * (a.n / 64) ≡ a.n = omega arith in
-    c.select_full.ensures ∙ ap (λ (k : ℕ). put a.bitmap.now 0 (chosen a.words.now k a.w a.band)) all
+    c.select_full.ensures ∙ ap (λ (k : ℕ). put a.bitmap.now 0 (chosen a.words.now k a.ends.now.w a.ends.now.band)) all
 
 pub group_bits-requires : goal.group_bits-requires
 group_bits-requires c =
     let a = c.args in
-    record {
-      few = omega (arith, place-within a.w (a.n / 64) (ceil a.n 64) (omega arith));
-      masked = c.requires.masked;
-    }
+    omega (arith, place-within a.ends.now.w (a.n / 64) (ceil a.n 64) (omega arith))
 
 pub nonzero_rem-bits : goal.nonzero_rem-bits
 nonzero_rem-bits c =
@@ -44,11 +38,11 @@ returns c =
     let a = c.args in
     let q = a.n / 64 in
     let r = a.n % 64 in
-    let bits : c.group_bits.result % ((1 * 2 ^ r) % 2 ^ 64) ≡ lanes64 a.words.now (q * a.w) a.w a.band % 2 ^ r =
+    let bits : c.group_bits.result % ((1 * 2 ^ r) % 2 ^ 64) ≡ lanes64 a.words.now (q * a.ends.now.w) a.ends.now.w a.ends.now.band % 2 ^ r =
     rw (one_shl 64 r (omega arith), c.group_bits.ensures) in
     let all : 64 * q + r ≡ a.n = omega arith in
     c.store_low.ensures
     ∙ ap (λ (l : List ℕ). put l (8 * q) (bytes (ceil r 8) (c.group_bits.result % ((1 * 2 ^ r) % 2 ^ 64))))
     c.select_full.ensures
-    ∙ next-chosen a.bitmap.now a.words.now a.w a.band q r _ (omega arith) (omega arith) bits
-    ∙ ap (λ (k : ℕ). put a.bitmap.now 0 (chosen a.words.now k a.w a.band)) all
+    ∙ next-chosen a.bitmap.now a.words.now a.ends.now.w a.ends.now.band q r _ (omega arith) (omega arith) bits
+    ∙ ap (λ (k : ℕ). put a.bitmap.now 0 (chosen a.words.now k a.ends.now.w a.ends.now.band)) all

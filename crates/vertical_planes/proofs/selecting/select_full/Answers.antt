@@ -3,7 +3,6 @@ use mathlib.Core.Path.{◌≡◌, refl, ap, ◌∙◌}
 use Prim.Native.Nat.{◌+◌, ◌*◌, ◌/◌}
 use native.Mathlib.Nat.{mul-le-mul_right}
 use native.Mathlib.Omega.{arith}
-use lib.ListN.{length}
 use Rattle.rules.specs.Bits.{put, bytes}
 use Rattle.words.specs.Entries.{place-within}
 use Rattle.vertical_planes.specs.Chosen.{next_group}
@@ -12,37 +11,26 @@ use Rattle.vertical_planes.proofs.selecting.select_full.Goals as goal
 pub select_fours-requires : goal.select_fours-requires
 select_fours-requires c =
     let a = c.args in
-    record {
-      few = omega (arith, mul-le-mul_right {m = 4 * (a.q / 4)} {n = a.q} a.w (omega arith));
-      masked = c.requires.masked;
-    }
+    omega (arith, mul-le-mul_right {m = 4 * (a.q / 4)} {n = a.q} a.ends.now.w (omega arith))
 
 pub loop-g-init : goal.loop-g-init
-loop-g-init c = (omega arith, c.select_fours.auto.bitmap, c.select_fours.ensures)
+loop-g-init c = c.select_fours.ensures
 
 pub group_bits-requires : goal.group_bits-requires
 group_bits-requires c =
     let a = c.args in
-    record {
-      few = omega (arith, place-within a.w c.loop-g.g a.q (omega arith));
-      masked = c.requires.masked;
-    }
+    omega (arith, place-within a.ends.now.w c.loop-g.g a.q (omega arith))
 
 pub loop-g-preserved : goal.loop-g-preserved
 loop-g-preserved c =
     let a = c.args in
     let l = c.loop-g in
     let g = l.g in
-    let kept : length c.store8.new.s ≡ length l.bitmap = c.store8.auto.s in (
-      omega arith,
-      kept ∙ l.invariant.1,
-      c.store8.ensures
-          ∙ ap (λ y. put y (8 * g) (bytes 8 c.group_bits.result)) l.invariant.2
-          ∙ next_group a.bitmap.now a.words.now a.w a.band g (g + 1) (g * a.w) _ refl refl (omega arith)
-          c.group_bits.ensures,
-    )
+    c.store8.ensures
+    ∙ ap (λ y. put y (8 * g) (bytes 8 c.group_bits.result)) l.invariant
+    ∙ next_group a.bitmap.now a.words.now a.ends.now.w a.ends.now.band g (g + 1) (g * a.ends.now.w) _ refl refl (omega arith) c.group_bits.ensures
 
 pub returns : goal.returns
 returns c =
     let all : c.loop-g.g ≡ c.args.q = omega arith in
-    rw (← all) c.loop-g.invariant.2
+    rw (← all) c.loop-g.invariant

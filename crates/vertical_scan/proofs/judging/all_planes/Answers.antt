@@ -1,31 +1,31 @@
 -- `vertical_scan::judging::all_planes` meets its contract.
-use mathlib.Core.Path.{◌≡◌, refl, sym, ap, ◌∙◌}
-use Prim.Native.Nat.{ℕ, ◌+◌}
+use mathlib.Core.Path.{◌≡◌, refl, ap₂, ◌∙◌}
+use Prim.Native.Nat.{◌+◌, ◌-◌}
 use native.Mathlib.Numerals.{add-one}
 use native.Mathlib.Omega.{arith}
 use lib.Bits.{bit_or}
-use lib.ListN.{get_or}
+use lib.ListN.{take, drop, get_or}
+use Rattle.std.proofs.lemmas.List.{get_or-take}
+use Rattle.std.proofs.Common.{get_or-drop}
 use Rattle.vertical_scan.specs.UnusedLanes.{or_to}
 use Rattle.vertical_scan.proofs.judging.all_planes.Goals as goal
 
-pub loop-k-init : goal.loop-k-init
+pub loop-word-init : goal.loop-word-init
 unfolding or_to
-loop-k-init c = (omega arith, refl)
+loop-word-init c = refl
 
-pub offset_bounds-words-at : goal.offset_bounds-words-at
-offset_bounds-words-at c = omega arith
-
-pub loop-k-preserved : goal.loop-k-preserved
+pub loop-word-preserved : goal.loop-word-preserved
 unfolding or_to
-loop-k-preserved c =
+loop-word-preserved c =
     let a = c.args in
-    let l = c.loop-k in (
-      omega arith,
-      ap (λ (x : ℕ). bit_or x (get_or a.words.now (a.at + l.k) 0)) l.invariant.1
-          ∙ ap (or_to a.words.now a.at) (sym (add-one l.k)),
-    )
+    let l = c.loop-word in
+    let words = a.words.now in
+    let word : get_or (take (a.at + a.w - a.at) (drop a.at words)) l.word-index 0 ≡ get_or words (a.at + l.word-index) 0 =
+    get_or-take (a.at + a.w - a.at) (drop a.at words) l.word-index 0 (omega arith)
+    ∙ get_or-drop a.at words l.word-index 0 in
+    rw add-one (ap₂ bit_or l.invariant word)
 
 pub returns : goal.returns
 returns c =
-    let all : c.loop-k.k ≡ c.args.w = omega arith in
-    rw (← all) c.loop-k.invariant.1
+    let all : c.loop-word.word-index ≡ c.args.w = omega arith in
+    rw (← all) c.loop-word.invariant

@@ -58,9 +58,9 @@ returns-then-all_planes-rest-gt0 c =
       sym rest ∙ lt-ltb _ _ c.if-all_planes-rest-gt0.true,
     )
 
-pub returns : goal.returns
+pub returns-else-all_planes-rest-gt0 : goal.returns-else-all_planes-rest-gt0
 unfolding page_fault ◌then◌
-returns c =
+returns-else-all_planes-rest-gt0 c =
     let a = c.args in
     let rest =
     ap (λ (x : ℕ). ltb 0 (x / 2 ^ (a.n % 64))) c.all_planes.ensures

@@ -40,8 +40,8 @@ returns-then-band c =
     ((rw (low, high) at c.compare_group-inside.ensures)
     ∙ lent a.words.now at a.w a.band.low a.band.high c.requires.1)
 
-pub returns : goal.returns
-returns c =
+pub returns-else-band : goal.returns-else-band
+returns-else-band c =
     let a = c.args in
     let at = a.g * a.w in
     let low : to_z w64 (of_z w64 a.band.low) ≡ a.band.low = search rules in

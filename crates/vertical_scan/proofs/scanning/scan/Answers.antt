@@ -13,10 +13,10 @@ use Rattle.vertical_scan.proofs.scanning.scan.Goals as goal
 pub scan_band-requires : goal.scan_band-requires
 scan_band-requires c =
     let judgement : let a = c.args in
-    arguments_of (limit_fault a.width a.n) a.op a.a a.b ≡ c.arguments_of-arguments.result = let s = c in
+    arguments_of (limit_fault a.width a.n) a.op a.a a.b ≡ c.arguments_of.result = let s = c in
     sym
     (rw (to_z-of_z w64 s.args.a s.ranges.a, to_z-of_z w64 s.args.b s.ranges.b) at
-    c.arguments_of-arguments.ensures) in
+    c.arguments_of.ensures) in
     let s = c in
     unsigned-limits _ _ _ _ _ _ (judgement ∙ s.in-Good.is)
 
@@ -24,10 +24,10 @@ pub returns-in-Bad : goal.returns-in-Bad
 unfolding Vertical.scan
 returns-in-Bad c =
     let judgement : let a = c.args in
-    arguments_of (limit_fault a.width a.n) a.op a.a a.b ≡ c.arguments_of-arguments.result = let s = c in
+    arguments_of (limit_fault a.width a.n) a.op a.a a.b ≡ c.arguments_of.result = let s = c in
     sym
     (rw (to_z-of_z w64 s.args.a s.ranges.a, to_z-of_z w64 s.args.b s.ranges.b) at
-    c.arguments_of-arguments.ensures) in
+    c.arguments_of.ensures) in
     let s = c in
     let f = s in
     let a = f.args in
@@ -38,10 +38,10 @@ pub returns-in-Good : goal.returns-in-Good
 unfolding Vertical.scan
 returns-in-Good c =
     let judgement : let a = c.args in
-    arguments_of (limit_fault a.width a.n) a.op a.a a.b ≡ c.arguments_of-arguments.result = let s = c in
+    arguments_of (limit_fault a.width a.n) a.op a.a a.b ≡ c.arguments_of.result = let s = c in
     sym
     (rw (to_z-of_z w64 s.args.a s.ranges.a, to_z-of_z w64 s.args.b s.ranges.b) at
-    c.arguments_of-arguments.ensures) in
+    c.arguments_of.ensures) in
     let s = c in
     let f = s in
     let a = f.args in

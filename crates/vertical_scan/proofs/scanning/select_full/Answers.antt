@@ -3,16 +3,13 @@ use mathlib.Core.Path.{◌≡◌, sym, ap, ◌∙◌}
 use Prim.Native.Nat.{ℕ, ◌+◌, ◌*◌, ◌%◌, ◌^◌}
 use native.Mathlib.Nat.{mod-eq_of_lt}
 use native.Mathlib.Omega.{arith}
-use lib.ListN.{length}
 use Rattle.rules.specs.Bits.{put, bytes}
 use Rattle.words.specs.Entries.{place-within}
 use Rattle.vertical_scan.specs.Chosen.{chosen, lanes64, lanes_lt, none-chosen, next-chosen}
 use Rattle.vertical_scan.proofs.scanning.select_full.Goals as goal
 
 pub loop-g-init : goal.loop-g-init
-loop-g-init c =
-    let a = c.args in
-    (omega arith, omega arith, none-chosen a.bitmap.now a.words.now a.w a.band)
+loop-g-init c = let a = c.args in none-chosen a.bitmap.now a.words.now a.w a.band
 
 pub group_bits-requires : goal.group_bits-requires
 group_bits-requires c =
@@ -21,21 +18,16 @@ group_bits-requires c =
 
 pub loop-g-preserved : goal.loop-g-preserved
 loop-g-preserved c =
-    let s = c in
-    let l = s.loop-g in
-    let a = s.args in
-    let bits : s.group_bits.result ≡ lanes64 a.words.now (l.g * a.w) a.w a.band % 2 ^ 64 =
-    s.group_bits.ensures ∙ sym (mod-eq_of_lt (lanes_lt a.words.now (l.g * a.w) a.w a.band)) in
+    let l = c.loop-g in
+    let a = c.args in
+    let bits : c.group_bits.result ≡ lanes64 a.words.now (l.g * a.w) a.w a.band % 2 ^ 64 =
+    c.group_bits.ensures ∙ sym (mod-eq_of_lt (lanes_lt a.words.now (l.g * a.w) a.w a.band)) in
     let more : 64 * (l.g + 1) ≡ 64 * l.g + 64 = omega arith in
-    let kept : length s.store8.new.s ≡ length l.bitmap = s.store8.auto.s in (
-      omega arith,
-      kept ∙ l.invariant.1,
-      s.store8.ensures ∙ ap (λ x. put x (8 * l.g) (bytes 8 s.group_bits.result)) l.invariant.2
-          ∙ next-chosen a.bitmap.now a.words.now a.w a.band l.g 64 _ (omega arith) (omega arith) bits
-          ∙ ap (λ (k : ℕ). put a.bitmap.now 0 (chosen a.words.now k a.w a.band)) (sym more),
-    )
+    c.store8.ensures ∙ ap (λ x. put x (8 * l.g) (bytes 8 c.group_bits.result)) l.invariant
+    ∙ next-chosen a.bitmap.now a.words.now a.w a.band l.g 64 _ (omega arith) (omega arith) bits
+    ∙ ap (λ (k : ℕ). put a.bitmap.now 0 (chosen a.words.now k a.w a.band)) (sym more)
 
 pub returns : goal.returns
 returns c =
     let all : c.loop-g.g ≡ c.args.q = omega arith in
-    rw (← all) c.loop-g.invariant.2
+    rw (← all) c.loop-g.invariant

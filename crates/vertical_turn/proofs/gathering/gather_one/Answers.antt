@@ -24,18 +24,15 @@ more xs low r b x some few within eight so =
 pub loop-b-init : goal.loop-b-init
 loop-b-init c =
     let a = c.args in
-    let xs = a.entries.now in (
-      omega arith,
-      omega arith,
-      sym (gathered_none xs a.low a.r ((length xs + a.r) / 8) (omega arith) (omega arith)),
-    )
+    let xs = a.entries.now in
+    sym (gathered_none xs a.low a.r ((length xs + a.r) / 8) (omega arith) (omega arith))
 
 pub overflow_mul-x : goal.overflow_mul-x
 overflow_mul-x c =
     let l = c.loop-b in
     let a = c.args in
     let next =
-    more a.entries.now a.low a.r l.b l.x (omega arith) (omega arith) (omega arith) (omega arith) l.invariant.2 in
+    more a.entries.now a.low a.r l.b l.x (omega arith) (omega arith) (omega arith) (omega arith) l.invariant in
     omega (arith, next)
 
 pub overflow_add-x : goal.overflow_add-x
@@ -43,7 +40,7 @@ overflow_add-x c =
     let l = c.loop-b in
     let a = c.args in
     let next =
-    more a.entries.now a.low a.r l.b l.x (omega arith) (omega arith) (omega arith) (omega arith) l.invariant.2 in
+    more a.entries.now a.low a.r l.b l.x (omega arith) (omega arith) (omega arith) (omega arith) l.invariant in
     omega (arith, next)
 
 pub loop-b-preserved : goal.loop-b-preserved
@@ -51,12 +48,12 @@ loop-b-preserved c =
     let l = c.loop-b in
     let a = c.args in
     let next =
-    more a.entries.now a.low a.r l.b l.x (omega arith) (omega arith) (omega arith) (omega arith) l.invariant.2 in
-    (omega arith, omega arith, sym next.0)
+    more a.entries.now a.low a.r l.b l.x (omega arith) (omega arith) (omega arith) (omega arith) l.invariant in
+    sym next.0
 
 pub returns : goal.returns
 returns c =
     let a = c.args in
     let e : c.loop-b.b ≡ 0 = omega arith in
-    c.loop-b.invariant.2 ∙ ap (gathered_from a.entries.now a.low a.r) e
+    c.loop-b.invariant ∙ ap (gathered_from a.entries.now a.low a.r) e
     ∙ gathered_all a.entries.now a.low a.r

@@ -1,13 +1,8 @@
 -- The loop's invariant: the bytes of the entries behind are gathered.
 use mathlib.Core.Path.{◌≡◌}
-use Prim.Native.Nat.{◌+◌, ◌*◌, ◌≤◌}
-use lib.ListN.{length}
 use Rattle.vertical_turn.specs.PlanesFromBytes.{gathered_from}
 use Rattle.vertical_turn.proofs.gathering.gather_one.Given as goal
 
 abbrev pub invariant-loop-b : goal.invariant-loop-b
 invariant-loop-b l =
-    (l.b ≤ 8) × (8 * l.b ≤ length l.entries + l.r) × (l.x ≡ gathered_from l.entries l.low l.r l.b)
-
-abbrev pub decreases-loop-b : goal.decreases-loop-b
-decreases-loop-b l = l.b
+    l.x ≡ gathered_from l.entries l.low l.r l.b

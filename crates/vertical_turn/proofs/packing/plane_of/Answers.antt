@@ -20,7 +20,7 @@ more b xs j p some within few so =
     )
 
 pub loop-j-init : goal.loop-j-init
-loop-j-init c = (omega arith, sym (bits_of-none (c.args.w - 1 - c.args.k) c.args.entries.now))
+loop-j-init c = sym (bits_of-none (c.args.w - 1 - c.args.k) c.args.entries.now)
 
 pub overflow_cast-x : goal.overflow_cast-x
 overflow_cast-x c = omega (arith, c.type_inv.entries (c.loop-j.j - 1))
@@ -29,27 +29,27 @@ pub overflow_mul-p : goal.overflow_mul-p
 overflow_mul-p c =
     let l = c.loop-j in
     let a = c.args in
-    let next = more (a.w - 1 - a.k) a.entries.now l.j l.p (omega arith) (omega arith) (omega arith) l.invariant.1 in
+    let next = more (a.w - 1 - a.k) a.entries.now l.j l.p (omega arith) (omega arith) (omega arith) l.invariant in
     omega (arith, next)
 
 pub overflow_add-p : goal.overflow_add-p
 overflow_add-p c =
     let l = c.loop-j in
     let a = c.args in
-    let next = more (a.w - 1 - a.k) a.entries.now l.j l.p (omega arith) (omega arith) (omega arith) l.invariant.1 in
+    let next = more (a.w - 1 - a.k) a.entries.now l.j l.p (omega arith) (omega arith) (omega arith) l.invariant in
     omega (arith, next)
 
 pub loop-j-preserved : goal.loop-j-preserved
 loop-j-preserved c =
     let l = c.loop-j in
     let a = c.args in
-    let next = more (a.w - 1 - a.k) a.entries.now l.j l.p (omega arith) (omega arith) (omega arith) l.invariant.1 in
-    (omega arith, sym next.0)
+    let next = more (a.w - 1 - a.k) a.entries.now l.j l.p (omega arith) (omega arith) (omega arith) l.invariant in
+    sym next.0
 
 pub returns : goal.returns
 returns c =
     let a = c.args in
     let b : ℕ = a.w - 1 - a.k in
     let e : c.loop-j.j ≡ 0 = omega arith in
-    c.loop-j.invariant.1 ∙ ap (λ (j : ℕ). bits_of b (drop j a.entries.now)) e
+    c.loop-j.invariant ∙ ap (λ (j : ℕ). bits_of b (drop j a.entries.now)) e
     ∙ bits_of-plane a.w a.entries.now a.k (omega arith)

@@ -1,25 +1,19 @@
--- `vertical_turn::unpacking::clear` meets its contract: each turn sets one place more to 0.
-use mathlib.Core.Path.{◌≡◌}
+-- `vertical_turn::unpacking::clear` meets its contract: the filled part, with what lies behind it.
+use mathlib.Core.Path.{◌≡◌, refl}
+use Prim.Native.Nat.{ℕ}
+use native.Mathlib.Nat.{zero-add}
+use lib.ListN.{length, take, replicate, length-replicate}
+use lib.Seq.{length-take-le}
 use native.Mathlib.Omega.{arith}
-use lib.ListN.{length-set}
-use Rattle.rules.specs.Bits.{tabulate}
-use Rattle.words.specs.Puts.{put-none}
-use Rattle.words.specs.Tabulated.{put-tabulate}
+use Rattle.rules.specs.Bits.{put, tabulate}
+use Rattle.words.specs.Tabulated.{tabulate-same}
 use Rattle.vertical_turn.proofs.unpacking.clear.Goals as goal
 
-pub loop-j-init : goal.loop-j-init
-unfolding tabulate
-loop-j-init c = (omega arith, omega arith, put-none c.args.entries.now 0)
-
-pub loop-j-preserved : goal.loop-j-preserved
-loop-j-preserved c =
-    let l = c.loop-j in (
-      omega arith,
-      simp length-set l.invariant.1,
-      rw l.invariant.2 (put-tabulate c.args.entries.now l.j (λ i. 0) (omega arith)),
-    )
-
 pub returns : goal.returns
+unfolding put
 returns c =
-    let all : c.loop-j.j ≡ c.args.m = omega arith in
-    rw (← all) c.loop-j.invariant.2
+    let a = c.args in
+    let size : length (take a.m a.entries.now) ≡ a.m = length-take-le a.m a.entries.now (omega arith) in
+    let none : tabulate {A = ℕ} a.m (λ j. 0) ≡ replicate a.m 0 = tabulate-same {A = ℕ} a.m (λ j. 0) 0 (λ i h. refl) in
+    let filled : c.fill.new.self ≡ replicate a.m 0 = rw size at (c.fill.ensures.after (λ y e. e)) in
+    rw (none, filled, length-replicate {A = ℕ} a.m 0, zero-add a.m) refl
