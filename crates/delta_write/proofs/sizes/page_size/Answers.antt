@@ -31,7 +31,8 @@ pub returns : goal.returns
 returns c =
     let none = ap length (blocks-past 32 c.args.entries.now c.loop-from.from (omega arith)) in
     let all : c.loop-from.size ≡ length (page 32 c.args.entries.now) = omega arith in
-    record { sized = all; few = omega (arith, small _ _ c.header_size-size.ensures.sized c.header_size-size.ensures.few c.requires) }
+    let most = small _ _ c.header_size-size.ensures.sized c.header_size-size.ensures.few c.requires in
+    record { sized = all; few = omega (arith, most) }
 
 -- the last block
 pub returns-2 : goal.returns-2
@@ -39,4 +40,5 @@ returns-2 c =
     let b = begins 32 c.args.entries.now c.loop-from.from {k = c.min.result} (omega arith) (omega arith) in
     let none = ap length (blocks-past 32 c.args.entries.now (c.loop-from.from + 128) (omega arith)) in
     let all : c.loop-from.size + c.block_size-size.result ≡ length (page 32 c.args.entries.now) = omega arith in
-    record { sized = all; few = omega (arith, small _ _ c.header_size-size.ensures.sized c.header_size-size.ensures.few c.requires) }
+    let most = small _ _ c.header_size-size.ensures.sized c.header_size-size.ensures.few c.requires in
+    record { sized = all; few = omega (arith, most) }

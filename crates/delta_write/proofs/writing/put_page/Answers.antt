@@ -35,8 +35,11 @@ loop-from-preserved c =
     let l = c.loop-from in
     let b = begins 32 c.args.entries.now c.loop-from.from {k = c.min.result} (omega arith) (omega arith) in
     let room : l.at + length (all_blocks 32 (drop l.from (deltas 32 c.args.entries.now))) ≤ length l.page =
-    omega (arith, c.put_header-at.ensures.next, length-page 32 c.args.entries.now) in
-    (omega (arith, c.put_block-at.ensures.next, b.sized), (rw (c.put_block-at.ensures.stored, c.put_block-at.ensures.next) (put-turn l.page l.at b room ∙ l.invariant.1)))
+    omega (arith, c.put_header-at.ensures.next, length-page 32 c.args.entries.now) in (
+      omega (arith, c.put_block-at.ensures.next, b.sized),
+      rw (c.put_block-at.ensures.stored, c.put_block-at.ensures.next)
+          (put-turn l.page l.at b room ∙ l.invariant.1),
+    )
 
 -- no block: there is no delta
 pub returns : goal.returns
