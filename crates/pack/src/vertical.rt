@@ -30,11 +30,8 @@ fn pack_groups(entries: &[u32], w: usize, words: &mut [u64])
     ensures { words.new
         ≡ put words.old 0 (Vertical.packed w entries.now) }
 {
-    let groups = (entries.len() + 63) / 64;
-    let mut g: usize = 0;
-    while g < groups {
+    for g in 0..(entries.len() + 63) / 64 {
         pack_one(entries, w, g, words);
-        g += 1;
     }
 }
 

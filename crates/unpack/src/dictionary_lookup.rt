@@ -9,19 +9,6 @@ use dictionary_scan::values::value_any;
 use packed_entries::unpacking::unpack;
 use rules::Run;
 use runs_read::plain::run_at;
-use words::counts::min;
-
-// One value into the first m places.
-fn fill(places: &mut [i32], m: usize, value: i32)
-    requires { m ≤ length places.old }
-    ensures { places.new ≡ put places.old 0 (tabulate m (λ _. value)) }
-{
-    let mut i: usize = 0;
-    while i < m {
-        places[i] = value;
-        i += 1;
-    }
-}
 
 // The values of the first m indexes of a list, into the first m places.
 fn look_up(dict: &[u8], indexes: &[u32], m: usize, places: &mut [i32])
@@ -30,10 +17,8 @@ fn look_up(dict: &[u8], indexes: &[u32], m: usize, places: &mut [i32])
         ≡ put places.old 0
         (tabulate m (λ k. value dict.now (get_or indexes.now k 0))) }
 {
-    let mut i: usize = 0;
-    while i < m {
-        places[i] = value_any(dict, indexes[i]);
-        i += 1;
+    for (i, place) in places[..m].iter_mut().enumerate() {
+        *place = value_any(dict, indexes[i]);
     }
 }
 
@@ -43,7 +28,7 @@ fn place_same(dict: &[u8], index: u32, entries: &mut [i32], p: usize, m: usize)
     ensures { entries.new
         ≡ put entries.old p (tabulate m (λ _. value dict.now index)) }
 {
-    fill(&mut entries[p..], m, value_any(dict, index));
+    entries[p..p + m].fill(value_any(dict, index));
 }
 
 // At most 64 packed indexes from byte `from` on, unpacked by groups: their values, into the places from
@@ -87,14 +72,11 @@ fn place_body(
         (tabulate m
         (λ k. value dict.now (field low_first page.now (8 * start + k * w) w))) }
 {
-    let mut i: usize = 0;
     let mut from = start;
-    while i + 64 < m {
-        place_part(dict, page, from, w, entries, p + i, 64);
+    for i in (0..m).step_by(64) {
+        place_part(dict, page, from, w, entries, p + i, (m - i).min(64));
         from += 8 * w as usize;
-        i += 64;
     }
-    place_part(dict, page, from, w, entries, p + i, m - i);
 }
 
 // All runs, in turn; a fault ends the pass.
@@ -118,7 +100,7 @@ pub fn look_up_runs(dict: &[u8], page: &[u8], w: u32, n: usize, entries: &mut [i
                 start,
                 next,
             } => {
-                place_body(dict, page, start, w, entries, i, min(8 * groups, n - i));
+                place_body(dict, page, start, w, entries, i, (8 * groups).min(n - i));
                 i += 8 * groups;
                 at = next;
             }

@@ -7,26 +7,13 @@ ghost use Rattle.runs_walk.specs.Placed.{placed};
 use packed_entries::unpacking::unpack;
 use rules::Run;
 use runs_read::plain::run_at;
-use words::counts::min;
-
-// One value into the first m places.
-fn fill(places: &mut [u32], m: usize, value: u32)
-    requires { m ≤ length places.old }
-    ensures { places.new ≡ put places.old 0 (tabulate m (λ _. value)) }
-{
-    let mut i: usize = 0;
-    while i < m {
-        places[i] = value;
-        i += 1;
-    }
-}
 
 // m equal entries, into the places from place p on.
 fn place_same(entries: &mut [u32], p: usize, m: usize, value: u32)
     requires { p + m ≤ length entries.old }
     ensures { entries.new ≡ put entries.old p (tabulate m (λ _. value)) }
 {
-    fill(&mut entries[p..], m, value);
+    entries[p..p + m].fill(value);
 }
 
 // The first m entries of the packed run whose body begins at byte `start`, into the places from place p on.
@@ -61,7 +48,7 @@ pub fn place_runs(page: &[u8], w: u32, n: usize, entries: &mut [u32])
                 start,
                 next,
             } => {
-                place_body(page, start, w, min(8 * groups, n - i), entries, i);
+                place_body(page, start, w, (8 * groups).min(n - i), entries, i);
                 i += 8 * groups;
                 at = next;
             }

@@ -35,11 +35,8 @@ fn unpack_groups(words: &[u64], w: usize, n: usize, entries: &mut [u32])
     ensures { entries.new
         ≡ put entries.old 0 (tabulate n (Vertical.entry words.now w)) }
 {
-    let groups = (n + 63) / 64;
-    let mut g: usize = 0;
-    while g < groups {
+    for g in 0..(n + 63) / 64 {
         unpack_one(words, w, n, g, entries);
-        g += 1;
     }
 }
 

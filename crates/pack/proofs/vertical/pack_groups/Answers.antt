@@ -18,7 +18,7 @@ pub loop-g-init : goal.loop-g-init
 unfolding tabulate
 loop-g-init c =
     let a = c.args in
-    (omega arith, omega arith, omega arith, rw (zero-mul a.w) (put-none a.words.now 0))
+    rw (zero-mul a.w) (put-none a.words.now 0)
 
 pub pack_one-requires : goal.pack_one-requires
 pack_one-requires c =
@@ -32,26 +32,21 @@ loop-g-preserved c =
     let l = s.loop-g in
     let a = s.args in
     let more : l.g * a.w + a.w ≡ (l.g + 1) * a.w = rw add-one (sym (suc-mul l.g a.w)) in
-    let kept : length s.pack_one.new.words ≡ length l.words = s.pack_one.auto.words in (
-      omega arith,
-      omega arith,
-      kept ∙ l.invariant.2,
-      s.pack_one.ensures
-          ∙ ap (λ (x : List ℕ). put x (l.g * a.w) (tabulate a.w (plane a.w a.entries.now l.g)))
-          l.invariant.3
-          ∙ next_group_planes a.words.now a.entries.now a.w l.g
-          (omega (arith, place-within a.w l.g ((length a.entries.now + 63) / 64) (omega arith)))
-          ∙ ap
-          (λ (k : ℕ). put a.words.now 0
-          (tabulate k (λ i. plane a.w a.entries.now (i / a.w) (i % a.w)))) more,
-    )
+    s.pack_one.ensures
+    ∙ ap (λ (x : List ℕ). put x (l.g * a.w) (tabulate a.w (plane a.w a.entries.now l.g)))
+    l.invariant
+    ∙ next_group_planes a.words.now a.entries.now a.w l.g
+    (omega (arith, place-within a.w l.g ((length a.entries.now + 63) / 64) (omega arith)))
+    ∙ ap
+    (λ (k : ℕ). put a.words.now 0
+    (tabulate k (λ i. plane a.w a.entries.now (i / a.w) (i % a.w)))) more
 
 pub returns : goal.returns
 unfolding packed
 returns c =
     let a = c.args in
     let all : c.loop-g.g ≡ (length a.entries.now + 63) / 64 = omega arith in
-    c.loop-g.invariant.3
+    c.loop-g.invariant
     ∙ ap
     (λ (k : ℕ). put a.words.now 0
     (tabulate (k * a.w) (λ i. plane a.w a.entries.now (i / a.w) (i % a.w)))) all

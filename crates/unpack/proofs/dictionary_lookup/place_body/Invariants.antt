@@ -2,7 +2,6 @@
 -- place, and the next begins at byte `from`.
 use mathlib.Core.Path.{◌≡◌}
 use Prim.Native.Nat.{◌+◌, ◌-◌, ◌*◌, ◌≤◌}
-use lib.ListN.{length}
 use Rattle.rules.specs.Bits.{field, put, tabulate}
 use Rattle.rules.specs.Bits.Order.{low_first}
 use Rattle.rules.specs.Dictionary.{value}
@@ -10,7 +9,7 @@ use Rattle.unpack.proofs.dictionary_lookup.place_body.Given as goal
 
 abbrev pub invariant-loop-i : goal.invariant-loop-i
 invariant-loop-i l =
-    (l.i ≤ l.m) × (8 * l.from ≡ 8 * l.start + l.i * l.w) × (length l.entries ≡ length l.initial.entries)
+    (l.i ≤ l.m) × (8 * l.from ≡ 8 * l.start + l.i * l.w)
     × (l.entries ≡ put l.initial.entries l.p
     (tabulate l.i (λ k. value l.dict (field low_first l.page (8 * l.start + k * l.w) l.w))))
 

@@ -1,8 +1,9 @@
--- `unpack::runs_placing::place_same` meets its contract: the part that is lent begins at place p.
-use Rattle.words.specs.Puts.{part_put}
+-- `unpack::runs_placing::place_same` meets its contract: each place of the part holds the value.
+use Rattle.std.proofs.Common.{rules, arith}
+use Rattle.unpack.proofs.Filled.{filled}
 use Rattle.unpack.proofs.runs_placing.place_same.Goals as goal
 
 pub returns : goal.returns
 returns c =
     let a = c.args in
-    part_put a.entries.now _ _ a.p c.fill.ensures
+    filled a.entries.now c.fill.new.self a.p _ _ a.m a.value (c.fill.ensures.after (search rules)) (search rules) (omega arith)

@@ -4,7 +4,6 @@ use mathlib.Core.Path.{◌≡◌, ap, ◌∙◌}
 use mathlib.Core.List.{List}
 use Prim.Native.Nat.{ℕ, ◌+◌, ◌-◌, ◌*◌, ◌/◌, min}
 use native.Mathlib.Omega.{arith}
-use lib.ListN.{length}
 use Rattle.rules.specs.Bits.{put, tabulate}
 use Rattle.rules.specs.Vertical.{entry, lane}
 use Rattle.words.specs.Puts.{put-none}
@@ -17,7 +16,7 @@ unfolding tabulate
 loop-g-init c =
     let a = c.args in
     let none : min (64 * 0) a.n ≡ 0 = omega arith in
-    (omega arith, omega arith, omega arith, rw none (put-none a.entries.now 0))
+    rw none (put-none a.entries.now 0)
 
 pub unpack_one-requires : goal.unpack_one-requires
 unpack_one-requires c =
@@ -30,19 +29,14 @@ loop-g-preserved c =
     let s = c in
     let l = s.loop-g in
     let a = s.args in
-    let kept : length s.unpack_one.new.entries ≡ length l.entries = s.unpack_one.auto.entries in (
-      omega arith,
-      omega arith,
-      kept ∙ l.invariant.2,
-      s.unpack_one.ensures
-          ∙ ap
-          (λ (x : List ℕ). put x (64 * l.g)
-          (tabulate (min 64 (a.n - 64 * l.g)) (lane a.words.now (l.g * a.w) a.w))) l.invariant.3
-          ∙ next-entries a.entries.now a.words.now a.w a.n l.g (omega arith) (omega arith),
-    )
+    s.unpack_one.ensures
+    ∙ ap
+    (λ (x : List ℕ). put x (64 * l.g)
+    (tabulate (min 64 (a.n - 64 * l.g)) (lane a.words.now (l.g * a.w) a.w))) l.invariant
+    ∙ next-entries a.entries.now a.words.now a.w a.n l.g (omega arith) (omega arith)
 
 pub returns : goal.returns
 returns c =
     let a = c.args in
     let all : min (64 * c.loop-g.g) a.n ≡ a.n = omega arith in
-    c.loop-g.invariant.3 ∙ ap (λ (k : ℕ). put a.entries.now 0 (tabulate k (entry a.words.now a.w))) all
+    c.loop-g.invariant ∙ ap (λ (k : ℕ). put a.entries.now 0 (tabulate k (entry a.words.now a.w))) all
