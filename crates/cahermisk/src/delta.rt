@@ -20,19 +20,19 @@ pub fn cahermisk_delta_scan(
     ensures { outcome result bitmap.new
         ≡ Delta.scan 32 page.now n op a b bitmap.old }
 {
-    scan(page, n, op, a, b, bitmap)
+    scan(page, n, op, a, b, bitmap).into()
 }
 
 pub fn cahermisk_delta_unpack(page: &[u8], n: usize, entries: &mut [i32]) -> Answer
     ensures { outcome result entries.new
         ≡ Delta.unpack 32 page.now n entries.old }
 {
-    unpack(page, n, entries)
+    unpack(page, n, entries).into()
 }
 
 pub fn cahermisk_delta_pack(entries: &[i32], page: &mut [u8]) -> Answer
     ensures { outcome result page.new
         ≡ DeltaWriter.pack 32 entries.now page.old }
 {
-    pack(entries, page)
+    pack(entries, page).into()
 }

@@ -19,7 +19,7 @@ pub fn cahermisk_dictionary_scan(
     ensures { outcome result bitmap.new
         ≡ Dictionary.scan dict.now page.now n op a b bitmap.old }
 {
-    scan(dict, page, n, op, a, b, bitmap)
+    scan(dict, page, n, op, a, b, bitmap).into()
 }
 
 pub fn cahermisk_dictionary_unpack(
@@ -31,5 +31,5 @@ pub fn cahermisk_dictionary_unpack(
     ensures { outcome result entries.new
         ≡ Dictionary.unpack dict.now page.now n entries.old }
 {
-    unpack(dict, page, n, entries)
+    unpack(dict, page, n, entries).into()
 }

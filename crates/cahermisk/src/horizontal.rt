@@ -21,19 +21,19 @@ pub fn cahermisk_horizontal_scan(
     ensures { outcome result bitmap.new
         ≡ Horizontal.scan low_first page.now width n op a b bitmap.old }
 {
-    scan(page, width, n, op, a, b, bitmap)
+    scan(page, width, n, op, a, b, bitmap).into()
 }
 
 pub fn cahermisk_horizontal_unpack(page: &[u8], width: u32, n: usize, entries: &mut [u32]) -> Answer
     ensures { outcome result entries.new
         ≡ Horizontal.unpack low_first page.now width n entries.old }
 {
-    unpack(page, width, n, entries)
+    unpack(page, width, n, entries).into()
 }
 
 pub fn cahermisk_horizontal_pack(entries: &[u32], width: u32, page: &mut [u8]) -> Answer
     ensures { outcome result page.new
         ≡ Horizontal.pack low_first entries.now width page.old }
 {
-    pack(entries, width, page)
+    pack(entries, width, page).into()
 }

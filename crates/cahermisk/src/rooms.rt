@@ -4,16 +4,16 @@ ghost use Rattle.rules.specs.Answer.{count_fault};
 ghost use Rattle.cahermisk.specs.Rooms.{bitmap_bytes, delta_bytes, horizontal_bytes, runs_bytes};
 ghost use Rattle.cahermisk.specs.Rooms.{spans_places, unless, vertical_words};
 
-use limits::{signed_fault, unsigned_fault};
+use limits::{judge_signed, judge_unsigned};
 
 // The entries of a column, 0 where they are more than any may have; signed columns have no other limit.
 fn entries_kept(n: usize) -> usize
     ensures { result ≡ unless (count_fault n) n }
 {
-    if signed_fault(n) != 0 {
-        return 0;
+    match judge_signed(n) {
+        Ok(()) => n,
+        Err(_) => 0,
     }
-    n
 }
 
 pub fn cahermisk_bitmap_bytes(n: usize) -> usize
@@ -25,37 +25,37 @@ pub fn cahermisk_bitmap_bytes(n: usize) -> usize
 pub fn cahermisk_horizontal_bytes(width: u32, n: usize) -> usize
     ensures { result ≡ horizontal_bytes width n }
 {
-    if unsigned_fault(width, n) != 0 {
-        return 0;
+    match judge_unsigned(width, n) {
+        Ok(()) => (n * width as usize + 7) / 8,
+        Err(_) => 0,
     }
-    (n * width as usize + 7) / 8
 }
 
 pub fn cahermisk_vertical_words(width: u32, n: usize) -> usize
     ensures { result ≡ vertical_words width n }
 {
-    if unsigned_fault(width, n) != 0 {
-        return 0;
+    match judge_unsigned(width, n) {
+        Ok(()) => (n + 63) / 64 * width as usize,
+        Err(_) => 0,
     }
-    (n + 63) / 64 * width as usize
 }
 
 pub fn cahermisk_runs_bytes(width: u32, n: usize) -> usize
     ensures { result ≡ runs_bytes width n }
 {
-    if unsigned_fault(width, n) != 0 {
-        return 0;
+    match judge_unsigned(width, n) {
+        Ok(()) => (n + 7) / 8 * (width as usize + 1),
+        Err(_) => 0,
     }
-    (n + 7) / 8 * (width as usize + 1)
 }
 
 pub fn cahermisk_delta_bytes(n: usize) -> usize
     ensures { result ≡ delta_bytes n }
 {
-    if signed_fault(n) != 0 {
-        return 0;
+    match judge_signed(n) {
+        Ok(()) => 11 + (n + 126) / 128 * 521,
+        Err(_) => 0,
     }
-    11 + (n + 126) / 128 * 521
 }
 
 pub fn cahermisk_spans_places(n: usize) -> usize

@@ -22,21 +22,21 @@ pub fn cahermisk_runs_scan(
     ensures { outcome result bitmap.new
         ≡ Runs.scan page.now width n op a b bitmap.old }
 {
-    scan(page, width, n, op, a, b, bitmap)
+    scan(page, width, n, op, a, b, bitmap).into()
 }
 
 pub fn cahermisk_runs_unpack(page: &[u8], width: u32, n: usize, entries: &mut [u32]) -> Answer
     ensures { outcome result entries.new
         ≡ Runs.unpack page.now width n entries.old }
 {
-    unpack(page, width, n, entries)
+    unpack(page, width, n, entries).into()
 }
 
 pub fn cahermisk_runs_pack(entries: &[u32], width: u32, page: &mut [u8]) -> Answer
     ensures { outcome result page.new
         ≡ RunWriter.pack entries.now width page.old }
 {
-    pack(entries, width, page)
+    pack(entries, width, page).into()
 }
 
 pub fn cahermisk_runs_next(

@@ -20,19 +20,19 @@ pub fn cahermisk_vertical_scan(
     ensures { outcome result bitmap.new
         ≡ Vertical.scan words.now width n op a b bitmap.old }
 {
-    scan(words, width, n, op, a, b, bitmap)
+    scan(words, width, n, op, a, b, bitmap).into()
 }
 
 pub fn cahermisk_vertical_unpack(words: &[u64], width: u32, n: usize, entries: &mut [u32]) -> Answer
     ensures { outcome result entries.new
         ≡ Vertical.unpack words.now width n entries.old }
 {
-    unpack(words, width, n, entries)
+    unpack(words, width, n, entries).into()
 }
 
 pub fn cahermisk_vertical_pack(entries: &[u32], width: u32, words: &mut [u64]) -> Answer
     ensures { outcome result words.new
         ≡ Vertical.pack entries.now width words.old }
 {
-    pack(entries, width, words)
+    pack(entries, width, words).into()
 }

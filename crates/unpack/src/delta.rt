@@ -2,25 +2,22 @@
 ghost use Rattle.std.specs.Prelude.{◌≡◌};
 ghost use Rattle.rules.specs.Answer.Outcome.{outcome};
 ghost use Rattle.rules.specs.Delta as Delta;
+ghost use Rattle.rules.specs.Refusals.{answer_of};
 
-use answers::{accepted, first_fault, refused, room_fault};
+use answers::judge_room;
 use delta_decode::placing::place;
-use delta_read::judging::page_fault;
-use limits::signed_fault;
-use rules::Answer;
+use delta_read::judging::judge_page;
+use limits::judge_signed;
+use rules::Refusal;
 
-pub fn unpack(page: &[u8], n: usize, entries: &mut [i32]) -> Answer
-    ensures { outcome result entries.new
+// How many entries were put.
+pub fn unpack(page: &[u8], n: usize, entries: &mut [i32]) -> Result<u32, Refusal>
+    ensures { outcome (answer_of result) entries.new
         ≡ Delta.unpack 32 page.now n entries.old }
 {
-    let limits = signed_fault(n);
-    if limits != 0 {
-        return refused(limits);
-    }
-    let code = first_fault(room_fault(entries.len(), n), page_fault(page, n));
-    if code != 0 {
-        return refused(code);
-    }
+    judge_signed(n)?;
+    judge_room(entries.len(), n)?;
+    judge_page(page, n)?;
     place(page, n, entries);
-    accepted(n as u32)
+    Ok(n as u32)
 }

@@ -3,12 +3,13 @@ ghost use Rattle.std.specs.Prelude.{◌≡◌, ◌≤◌, length};
 ghost use Rattle.rules.specs.Bits.{put, tabulate};
 ghost use Rattle.rules.specs.Answer.Outcome.{outcome};
 ghost use Rattle.rules.specs.Dictionary as Dictionary;
+ghost use Rattle.rules.specs.Refusals.{answer_of};
 
 use crate::dictionary_lookup::look_up_runs;
-use answers::{accepted, first_fault, refused, room_fault};
-use dictionary_scan::judging::column_fault;
-use limits::signed_fault;
-use rules::Answer;
+use answers::judge_room;
+use dictionary_scan::judging::judge_column;
+use limits::judge_signed;
+use rules::Refusal;
 
 // The values of the indexes of a column without a fault.
 fn place(dict: &[u8], page: &[u8], n: usize, entries: &mut [i32])
@@ -23,18 +24,14 @@ fn place(dict: &[u8], page: &[u8], n: usize, entries: &mut [i32])
     look_up_runs(dict, &page[1..], width, n, entries);
 }
 
-pub fn unpack(dict: &[u8], page: &[u8], n: usize, entries: &mut [i32]) -> Answer
-    ensures { outcome result entries.new
+// How many entries were put.
+pub fn unpack(dict: &[u8], page: &[u8], n: usize, entries: &mut [i32]) -> Result<u32, Refusal>
+    ensures { outcome (answer_of result) entries.new
         ≡ Dictionary.unpack dict.now page.now n entries.old }
 {
-    let limits = signed_fault(n);
-    if limits != 0 {
-        return refused(limits);
-    }
-    let code = first_fault(room_fault(entries.len(), n), column_fault(dict, page, n));
-    if code != 0 {
-        return refused(code);
-    }
+    judge_signed(n)?;
+    judge_room(entries.len(), n)?;
+    judge_column(dict, page, n)?;
     place(dict, page, n, entries);
-    accepted(n as u32)
+    Ok(n as u32)
 }

@@ -88,7 +88,9 @@ pub fn look_up_runs(dict: &[u8], page: &[u8], w: u32, n: usize, entries: &mut [i
     let mut at: usize = 0;
     let mut i: usize = 0;
     while i < n {
-        let run = run_at(page, at, w as usize, n - i);
+        let Ok(run) = run_at(page, at, w as usize, n - i) else {
+            return;
+        };
         match run {
             Run::Repeated { count, value, next } => {
                 place_same(dict, value, entries, i, count);
@@ -103,9 +105,6 @@ pub fn look_up_runs(dict: &[u8], page: &[u8], w: u32, n: usize, entries: &mut [i
                 place_body(dict, page, start, w, entries, i, (8 * groups).min(n - i));
                 i += 8 * groups;
                 at = next;
-            }
-            Run::Refused(_) => {
-                return;
             }
         }
     }

@@ -2,28 +2,22 @@
 ghost use Rattle.std.specs.Prelude.{◌≡◌};
 ghost use Rattle.rules.specs.Answer.Outcome.{outcome};
 ghost use Rattle.rules.specs.Runs as Runs;
+ghost use Rattle.rules.specs.Refusals.{answer_of};
 
 use crate::runs_placing::place_runs;
-use answers::{accepted, first_fault, refused, room_fault};
-use limits::unsigned_fault;
-use rules::Answer;
-use runs_read::judging::stream_fault;
+use answers::judge_room;
+use limits::judge_unsigned;
+use rules::Refusal;
+use runs_read::judging::judge_stream;
 
-pub fn unpack(page: &[u8], width: u32, n: usize, entries: &mut [u32]) -> Answer
-    ensures { outcome result entries.new
+// How many entries were put.
+pub fn unpack(page: &[u8], width: u32, n: usize, entries: &mut [u32]) -> Result<u32, Refusal>
+    ensures { outcome (answer_of result) entries.new
         ≡ Runs.unpack page.now width n entries.old }
 {
-    let limits = unsigned_fault(width, n);
-    if limits != 0 {
-        return refused(limits);
-    }
-    let code = first_fault(
-        room_fault(entries.len(), n),
-        stream_fault(page, width as usize, n),
-    );
-    if code != 0 {
-        return refused(code);
-    }
+    judge_unsigned(width, n)?;
+    judge_room(entries.len(), n)?;
+    judge_stream(page, width as usize, n)?;
     place_runs(page, width, n, entries);
-    accepted(n as u32)
+    Ok(n as u32)
 }

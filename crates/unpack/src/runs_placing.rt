@@ -36,7 +36,9 @@ pub fn place_runs(page: &[u8], w: u32, n: usize, entries: &mut [u32])
     let mut at: usize = 0;
     let mut i: usize = 0;
     while i < n {
-        let run = run_at(page, at, w as usize, n - i);
+        let Ok(run) = run_at(page, at, w as usize, n - i) else {
+            return;
+        };
         match run {
             Run::Repeated { count, value, next } => {
                 place_same(entries, i, count, value);
@@ -51,9 +53,6 @@ pub fn place_runs(page: &[u8], w: u32, n: usize, entries: &mut [u32])
                 place_body(page, start, w, (8 * groups).min(n - i), entries, i);
                 i += 8 * groups;
                 at = next;
-            }
-            Run::Refused(_) => {
-                return;
             }
         }
     }

@@ -3,12 +3,13 @@ ghost use Rattle.std.specs.Prelude.{◌≡◌, ◌+◌, ◌-◌, ◌*◌, ◌≤
 ghost use Rattle.rules.specs.Bits.{put, tabulate};
 ghost use Rattle.rules.specs.Answer.Outcome.{outcome};
 ghost use Rattle.rules.specs.Vertical as Vertical;
+ghost use Rattle.rules.specs.Refusals.{answer_of};
 
-use answers::{accepted, first_fault, refused, room_fault};
-use limits::unsigned_fault;
-use rules::Answer;
+use answers::judge_room;
+use limits::judge_unsigned;
+use rules::Refusal;
 use vertical_scan::groups::entries_in_group;
-use vertical_scan::judging::page_fault;
+use vertical_scan::judging::judge_page;
 use vertical_turn::unpacking::unpack_group;
 
 // Group g, from its own planes into its own places.
@@ -40,18 +41,14 @@ fn unpack_groups(words: &[u64], w: usize, n: usize, entries: &mut [u32])
     }
 }
 
-pub fn unpack(words: &[u64], width: u32, n: usize, entries: &mut [u32]) -> Answer
-    ensures { outcome result entries.new
+// How many entries were put.
+pub fn unpack(words: &[u64], width: u32, n: usize, entries: &mut [u32]) -> Result<u32, Refusal>
+    ensures { outcome (answer_of result) entries.new
         ≡ Vertical.unpack words.now width n entries.old }
 {
-    let limits = unsigned_fault(width, n);
-    if limits != 0 {
-        return refused(limits);
-    }
-    let code = first_fault(room_fault(entries.len(), n), page_fault(words, width, n));
-    if code != 0 {
-        return refused(code);
-    }
+    judge_unsigned(width, n)?;
+    judge_room(entries.len(), n)?;
+    judge_page(words, width, n)?;
     unpack_groups(words, width as usize, n, entries);
-    accepted(n as u32)
+    Ok(n as u32)
 }

@@ -52,11 +52,9 @@ fn store_each(s: &mut [u8], at: usize, x: u64, n: usize)
     ensures { s.new ≡ put s.old at (bytes n x) }
 {
     let mut v = x;
-    let mut k: usize = 0;
-    while k < n {
+    for k in 0..n {
         s[at + k] = (v % 256) as u8;
         v = v / 256;
-        k += 1;
     }
 }
 

@@ -3,6 +3,7 @@ use mathlib.Core.Path.{◌≡◌, sym, ◌∙◌}
 use Prim.Native.Nat.{ℕ, ◌*◌, ◌≤◌}
 use native.Mathlib.Nat.{mul-le-mul}
 use native.Mathlib.Omega.{arith}
+use Rattle.answers.specs.Laws.{code_some}
 use Rattle.rules.specs.Answer.{limit_fault}
 use Rattle.answers.specs.Laws.{within-limits}
 use Rattle.cahermisk.specs.Rooms.{within, beyond}
@@ -12,25 +13,25 @@ use Rattle.cahermisk.proofs.rooms.cahermisk_vertical_words.Goals as goal
 words-few : (groups w : ℕ) → groups ≤ 256 → w ≤ 32 → groups * w ≤ 8192
 words-few groups w few narrow = mul-le-mul few narrow
 
-pub returns-then-unsigned_fault-ne0 : goal.returns-then-unsigned_fault-ne0
-returns-then-unsigned_fault-ne0 c =
-    sym (beyond _ _ (λ none. c.if-unsigned_fault-ne0.true (c.unsigned_fault.ensures ∙ none)))
+pub returns-in-Err : goal.returns-in-Err
+returns-in-Err c =
+    sym (beyond _ _ (λ none. code_some _ (c.in-Err.ensures ∙ none)))
 
 pub overflow_add-result : goal.overflow_add-result
 overflow_add-result c =
     let none : limit_fault c.args.width c.args.n ≡ 0 =
-    sym c.unsigned_fault.ensures ∙ c.if-unsigned_fault-ne0.false in
+    sym c.in-Ok.ensures in
     let k = within-limits _ _ none in omega arith
 
 pub overflow_mul-result : goal.overflow_mul-result
 overflow_mul-result c =
     let none : limit_fault c.args.width c.args.n ≡ 0 =
-    sym c.unsigned_fault.ensures ∙ c.if-unsigned_fault-ne0.false in
+    sym c.in-Ok.ensures in
     let k = within-limits _ _ none in
     omega (arith, words-few)
 
-pub returns : goal.returns
-returns c =
+pub returns-in-Ok : goal.returns-in-Ok
+returns-in-Ok c =
     let none : limit_fault c.args.width c.args.n ≡ 0 =
-    sym c.unsigned_fault.ensures ∙ c.if-unsigned_fault-ne0.false in
+    sym c.in-Ok.ensures in
     sym (within _ _ none)

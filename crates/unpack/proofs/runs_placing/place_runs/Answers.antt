@@ -4,6 +4,8 @@
 use mathlib.Core.Path.{refl, sym, ◌∙◌}
 use native.Mathlib.Omega.{arith}
 use borrow.Author.Rules.{rules}
+use Rattle.std.specs.Prelude.{Ok}
+use Rattle.rules.specs.Runs.{run_of}
 use Rattle.runs_read.specs.Parts.{body-fits}
 use Rattle.runs_read.specs.RunRead.{ran_repeated, ran_packed}
 use Rattle.runs_walk.specs.Placed.{places, placed-pass, placed-body}
@@ -20,24 +22,24 @@ loop-i-init c =
 
 pub place_same-requires : goal.place_same-requires
 place_same-requires c =
-    let repeated-run = sym c.run_at-run.ensures ∙ c.in-Repeated.is in
+    let repeated-run = sym c.in-Ok.ensures ∙ ap run_of (ap Ok c.in-Repeated.is) in
     let r = c in
     let ran = ran_repeated _ _ _ _ (repeated-run) in
     omega (arith, r.loop-i.invariant.1)
 
 pub overflow_add-i : goal.overflow_add-i
 overflow_add-i c =
-    let repeated-run = sym c.run_at-run.ensures ∙ c.in-Repeated.is in
+    let repeated-run = sym c.in-Ok.ensures ∙ ap run_of (ap Ok c.in-Repeated.is) in
     omega (arith, ran_repeated _ _ _ _ (repeated-run))
 
 pub loop-i-smaller-in-Repeated : goal.loop-i-smaller-in-Repeated
 loop-i-smaller-in-Repeated c =
-    let repeated-run = sym c.run_at-run.ensures ∙ c.in-Repeated.is in
+    let repeated-run = sym c.in-Ok.ensures ∙ ap run_of (ap Ok c.in-Repeated.is) in
     omega (arith, ran_repeated _ _ _ _ (repeated-run))
 
 pub loop-i-preserved-in-Repeated : goal.loop-i-preserved-in-Repeated
 loop-i-preserved-in-Repeated c =
-    let repeated-run = sym c.run_at-run.ensures ∙ c.in-Repeated.is in
+    let repeated-run = sym c.in-Ok.ensures ∙ ap run_of (ap Ok c.in-Repeated.is) in
     let r = c in
     let b = r in
     let ran = ran_repeated _ _ _ _ (repeated-run) in (
@@ -49,12 +51,12 @@ loop-i-preserved-in-Repeated c =
 
 pub overflow_mul-groups : goal.overflow_mul-groups
 overflow_mul-groups c =
-    let packed-run = sym c.run_at-run.ensures ∙ c.in-Packed.is in
+    let packed-run = sym c.in-Ok.ensures ∙ ap run_of (ap Ok c.in-Packed.is) in
     omega (arith, ran_packed _ _ _ _ (packed-run))
 
 pub place_body-requires : goal.place_body-requires
 place_body-requires c =
-    let packed-run = sym c.run_at-run.ensures ∙ c.in-Packed.is in
+    let packed-run = sym c.in-Ok.ensures ∙ ap run_of (ap Ok c.in-Packed.is) in
     let r = c in
     let b = r in
     let ran = ran_packed _ _ _ _ (packed-run) in
@@ -71,22 +73,22 @@ place_body-requires c =
 
 pub overflow_mul-i : goal.overflow_mul-i
 overflow_mul-i c =
-    let packed-run = sym c.run_at-run.ensures ∙ c.in-Packed.is in
+    let packed-run = sym c.in-Ok.ensures ∙ ap run_of (ap Ok c.in-Packed.is) in
     omega (arith, ran_packed _ _ _ _ (packed-run))
 
 pub overflow_add-i-in-Packed : goal.overflow_add-i-in-Packed
 overflow_add-i-in-Packed c =
-    let packed-run = sym c.run_at-run.ensures ∙ c.in-Packed.is in
+    let packed-run = sym c.in-Ok.ensures ∙ ap run_of (ap Ok c.in-Packed.is) in
     omega (arith, ran_packed _ _ _ _ (packed-run))
 
 pub loop-i-smaller : goal.loop-i-smaller
 loop-i-smaller c =
-    let packed-run = sym c.run_at-run.ensures ∙ c.in-Packed.is in
+    let packed-run = sym c.in-Ok.ensures ∙ ap run_of (ap Ok c.in-Packed.is) in
     omega (arith, ran_packed _ _ _ _ (packed-run))
 
 pub loop-i-preserved : goal.loop-i-preserved
 loop-i-preserved c =
-    let packed-run = sym c.run_at-run.ensures ∙ c.in-Packed.is in
+    let packed-run = sym c.in-Ok.ensures ∙ ap run_of (ap Ok c.in-Packed.is) in
     let r = c in
     let b = r in
     let a = b.args in
@@ -98,12 +100,12 @@ loop-i-preserved c =
           c.min.ensures c.place_body.ensures),
     )
 
-pub returns-in-Refused : goal.returns-in-Refused
-returns-in-Refused c =
+pub returns-in_default : goal.returns-in_default
+returns-in_default c =
     let b = c in
     sym
     (on_refused _ (places (λ x. x)) _ _ _ (search rules) b.loop-i.invariant.2
-    (sym c.run_at-run.ensures ∙ c.in-Refused.is))
+    (sym c.in_default.ensures))
 
 pub returns : goal.returns
 returns c = sym (ends _ (places (λ x. x)) _ _ _ c.loop-i.invariant.2 (search rules))

@@ -1,70 +1,51 @@
 -- `unpack::vertical::unpack` meets its contract: the faults in their order, then the column's entries.
-use mathlib.Core.Path.{◌≡◌, sym, ap, ◌∙◌}
-use Prim.Native.Nat.{◌≤◌}
+use mathlib.Core.Path.{sym, ap, ◌∙◌}
 use native.Mathlib.Omega.{arith}
-use lib.ListN.{length}
-use Rattle.rules.specs.Answer.{◌then◌, limit_fault, room_fault, accepted}
-use Rattle.rules.specs.Vertical as Vertical
-use Rattle.rules.specs.Vertical.{page_fault}
-use Rattle.answers.specs.Laws.{then_found, then_none, then_zero, within-limits, has_room, refused_is, accepted_is}
 use Rattle.words.specs.Tabulated.{length-tabulate}
+use Rattle.rules.specs.Answer.{accepted}
+use Rattle.rules.specs.Vertical as Vertical
+use Rattle.answers.specs.Laws.{then_judged, then_refused, passed_up, has_room, within-limits}
+use Rattle.answers.specs.Laws.{refused_call, accepted_is}
 use Rattle.vertical_scan.specs.GoodColumn.{good-column}
 use Rattle.unpack.proofs.vertical.unpack.Goals as goal
 
-pub returns-then-limits-ne0 : goal.returns-then-limits-ne0
+pub returns-in_err-judge_unsigned : goal.returns-in_err-judge_unsigned
 unfolding Vertical.unpack
-returns-then-limits-ne0 c =
-    refused_is _ _ _ _ _ _ c.refused.ensures
-    (then_found _ _ _ (sym c.unsigned_fault-limits.ensures) c.if-limits-ne0.true)
-    c.if-limits-ne0.true
+returns-in_err-judge_unsigned c =
+    rw (passed_up _ _ c.from_residual.ensures) (refused_call _ _ _ _ _ (then_refused _ _ _ c.in_err-judge_unsigned.ensures))
 
-pub page_fault-requires : goal.page_fault-requires
-page_fault-requires c =
-    let kept : let a = c.args in (a.width ≤ 32) × (a.n ≤ 16384) =
-    within-limits _ _ (sym c.unsigned_fault-limits.ensures ∙ c.if-limits-ne0.false) in
-    kept
-
-pub returns-then-code-ne0 : goal.returns-then-code-ne0
+pub returns-in_err-judge_room : goal.returns-in_err-judge_room
 unfolding Vertical.unpack
-returns-then-code-ne0 c =
-    let found : let a = c.args in
-    c.first_fault-code.result
-    ≡ (room_fault (length a.entries.now) a.n then page_fault a.words.now a.width a.n) = cc in
-    let faults : let a = c.args in
-    (limit_fault a.width a.n then room_fault (length a.entries.now) a.n
-    then page_fault a.words.now a.width a.n) ≡ c.first_fault-code.result = then_none _ _
-    (sym c.unsigned_fault-limits.ensures ∙ c.if-limits-ne0.false)
-    ∙ sym (found) in
-    refused_is _ _ _ _ _ _ c.refused-then-code-ne0.ensures (faults) c.if-code-ne0.true
+returns-in_err-judge_room c =
+    rw (passed_up _ _ c.from_residual-in_err-judge_room.ensures)
+    (refused_call _ _ _ _ _
+    (then_judged _ _ c.in_ok-judge_unsigned.ensures ∙ then_refused _ _ _ c.in_err-judge_room.ensures))
+
+pub judge_page-requires : goal.judge_page-requires
+judge_page-requires c =
+    let kept = within-limits _ _ (sym c.in_ok-judge_unsigned.ensures) in kept
+
+pub returns-in_err-judge_page : goal.returns-in_err-judge_page
+unfolding Vertical.unpack
+returns-in_err-judge_page c =
+    rw (passed_up _ _ c.from_residual-in_err-judge_page.ensures)
+    (refused_call _ _ _ _ _
+    (then_judged _ _ c.in_ok-judge_unsigned.ensures ∙ then_judged _ _ c.in_ok-judge_room.ensures
+    ∙ sym c.in_err-judge_page.ensures))
 
 pub unpack_groups-requires : goal.unpack_groups-requires
 unpack_groups-requires c =
-    let kept : let a = c.args in (a.width ≤ 32) × (a.n ≤ 16384) =
-    within-limits _ _ (sym c.unsigned_fault-limits.ensures ∙ c.if-limits-ne0.false) in
-    let found : let a = c.args in
-    c.first_fault-code.result
-    ≡ (room_fault (length a.entries.now) a.n then page_fault a.words.now a.width a.n) = cc in
-    let k = kept in
-    let z = then_zero _ _ (sym (found) ∙ c.if-code-ne0.false) in
-    (k.0, k.1, (good-column _ _ _ z.1).0, has_room _ _ z.0)
+    let kept = within-limits _ _ (sym c.in_ok-judge_unsigned.ensures) in
+    (kept.0, kept.1, (good-column _ _ _ (sym c.in_ok-judge_page.ensures)).0, has_room _ _ (sym c.in_ok-judge_room.ensures))
 
-pub overflow_cast-n : goal.overflow_cast-n
-overflow_cast-n c =
-    let kept : let a = c.args in (a.width ≤ 32) × (a.n ≤ 16384) =
-    within-limits _ _ (sym c.unsigned_fault-limits.ensures ∙ c.if-limits-ne0.false) in
-    omega (arith, kept)
+pub overflow_cast-result : goal.overflow_cast-result
+overflow_cast-result c =
+    let kept = within-limits _ _ (sym c.in_ok-judge_unsigned.ensures) in omega (arith, kept)
 
 pub returns : goal.returns
 unfolding Vertical.unpack
 returns c =
-    let found : let a = c.args in
-    c.first_fault-code.result
-    ≡ (room_fault (length a.entries.now) a.n then page_fault a.words.now a.width a.n) = cc in
-    let faults : let a = c.args in
-    (limit_fault a.width a.n then room_fault (length a.entries.now) a.n
-    then page_fault a.words.now a.width a.n) ≡ c.first_fault-code.result = then_none _ _
-    (sym c.unsigned_fault-limits.ensures ∙ c.if-limits-ne0.false)
-    ∙ sym (found) in
-    let s = c in
-    accepted_is _ _ _ _ _ _ (faults ∙ s.if-code-ne0.false)
-    (c.accepted.ensures ∙ ap accepted (sym (length-tabulate _ _))) s.unpack_groups.ensures
+    accepted_is _ _ _ _ _ _
+    (then_judged _ _ c.in_ok-judge_unsigned.ensures ∙ then_judged _ _ c.in_ok-judge_room.ensures
+    ∙ sym c.in_ok-judge_page.ensures)
+    (ap accepted (sym (length-tabulate _ _))) c.unpack_groups.ensures

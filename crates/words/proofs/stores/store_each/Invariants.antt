@@ -9,6 +9,3 @@ abbrev pub invariant-loop-k : goal.invariant-loop-k
 invariant-loop-k l =
     (l.k ≤ l.n) × (length l.s ≡ length l.initial.s) × (l.v ≡ l.x / 256 ^ l.k)
     × (l.s ≡ put l.initial.s l.at (bytes l.k l.x))
-
-abbrev pub decreases-loop-k : goal.decreases-loop-k
-decreases-loop-k l = l.n - l.k
