@@ -1,8 +1,10 @@
 // Are entries small enough for their width.
 ghost use Rattle.std.specs.Prelude.{◌≡◌, ℕ, ◌^◌, ◌≤◌, leb};
 ghost use Rattle.rules.specs.Answer.{◌then◌, any_large, large_fault, room_fault};
+ghost use Rattle.rules.specs.Refusals.{fault};
 
-use answers::room_fault;
+use answers::judge_room;
+use rules::Refusal;
 
 // The bits of all entries together: a power of 2 is reached by them where it is reached by an entry.
 pub fn bits_together(entries: &[u32]) -> u32
@@ -19,14 +21,14 @@ pub fn any_large(entries: &[u32], w: u32) -> bool
     (1 << w) <= bits_together(entries) as u64
 }
 
-// 8, and then 4 where the output has fewer places than are needed.
-pub fn entries_fault(entries: &[u32], w: u32, places: usize, need: usize) -> u32
+// Are all entries small enough, and then: has the output as many places as are needed.
+pub fn judge_entries(entries: &[u32], w: u32, places: usize, need: usize) -> Result<(), Refusal>
     requires { w ≤ 32 }
-    ensures { result ≡ (large_fault w entries.now then room_fault places need) }
+    ensures { fault result ≡ (large_fault w entries.now then room_fault places need) }
 {
     if any_large(entries, w) {
-        8
+        Err(Refusal::ValueTooLarge)
     } else {
-        room_fault(places, need)
+        judge_room(places, need)
     }
 }

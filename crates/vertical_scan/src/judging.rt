@@ -1,7 +1,10 @@
 // The faults of a column: judged before a place is written.
 ghost use Rattle.std.specs.Prelude.{◌≡◌, ◌≤◌, ◌*◌, ◌+◌, length};
 ghost use Rattle.rules.specs.Vertical.{page_fault};
+ghost use Rattle.rules.specs.Refusals.{fault};
 ghost use Rattle.vertical_scan.specs.UnusedLanes.{or_to};
+
+use rules::Refusal;
 
 // The w words from `at` on, put over each other: a lane is 0 where its bit is.
 fn all_planes(words: &[u64], at: usize, w: usize) -> u64
@@ -15,26 +18,25 @@ fn all_planes(words: &[u64], at: usize, w: usize) -> u64
     all
 }
 
-// 5, 6 or 7, or 0 where the column is good. Where n fills its last group no lane is unused.
-pub fn page_fault(words: &[u64], width: u32, n: usize) -> u32
+// Is the column as long as its entries, and are its unused lanes 0. Where n fills its last group none is unused.
+pub fn judge_page(words: &[u64], width: u32, n: usize) -> Result<(), Refusal>
     requires { (width ≤ 32) × (n ≤ 16384) }
-    ensures { result ≡ page_fault words.now width n }
+    ensures { fault result ≡ page_fault words.now width n }
 {
     let w = width as usize;
     let need = (n + 63) / 64 * w;
     if words.len() < need {
-        return 5;
+        return Err(Refusal::InputEndsTooEarly);
     }
     if need < words.len() {
-        return 6;
+        return Err(Refusal::InputLeftOver);
     }
     let rest = n % 64;
     if rest == 0 {
-        return 0;
+        return Ok(());
     }
     if all_planes(words, n / 64 * w, w) >> rest > 0 {
-        7
-    } else {
-        0
+        return Err(Refusal::UnusedBitsNot0);
     }
+    Ok(())
 }

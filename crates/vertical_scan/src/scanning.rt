@@ -4,15 +4,16 @@ ghost use Rattle.rules.specs.Bits.{ceil, put};
 ghost use Rattle.rules.specs.Answer.{◌then◌, room_fault, scanned};
 ghost use Rattle.rules.specs.Answer.Outcome.{outcome};
 ghost use Rattle.rules.specs.Vertical as Vertical;
+ghost use Rattle.rules.specs.Refusals.{answer_of};
 ghost use Rattle.compare.specs.Band.{banded};
 ghost use Rattle.vertical_scan.specs.Chosen.{chosen, lanes64};
 
-use crate::judging::page_fault;
-use answers::{first_fault, refused, room_fault};
-use arguments::{Arguments, arguments_of};
+use crate::judging::judge_page;
+use answers::judge_room;
+use arguments::arguments_of;
 use bitmaps::counted;
 use compare::bands::Band;
-use rules::Answer;
+use rules::Refusal;
 use vertical_compare::groups::compare_group;
 use words::stores::{store_low, store8};
 
@@ -55,25 +56,27 @@ fn select(words: &[u64], w: usize, n: usize, band: Band, bitmap: &mut [u8])
 }
 
 // By its band: the room and the column are judged, then the bitmap is written and counted.
-fn scan_band(words: &[u64], width: u32, n: usize, band: Band, bitmap: &mut [u8]) -> Answer
+fn scan_band(
+    words: &[u64],
+    width: u32,
+    n: usize,
+    band: Band,
+    bitmap: &mut [u8],
+) -> Result<u32, Refusal>
     requires { (width ≤ 32) × (n ≤ 16384) }
-    ensures { outcome result bitmap.new
+    ensures { outcome (answer_of result) bitmap.new
         ≡ scanned
         (room_fault (length bitmap.old) (ceil n 8)
         then Vertical.page_fault words.now width n) n
         (λ i. banded band (pos (Vertical.entry words.now width i))) bitmap.old }
 {
-    let code = first_fault(
-        room_fault(bitmap.len(), (n + 7) / 8),
-        page_fault(words, width, n),
-    );
-    if code != 0 {
-        return refused(code);
-    }
+    judge_room(bitmap.len(), (n + 7) / 8)?;
+    judge_page(words, width, n)?;
     select(words, width as usize, n, band, bitmap);
-    counted(bitmap, n)
+    Ok(counted(bitmap, n))
 }
 
+// How many entries are selected.
 pub fn scan(
     words: &[u64],
     width: u32,
@@ -82,12 +85,10 @@ pub fn scan(
     a: i64,
     b: i64,
     bitmap: &mut [u8],
-) -> Answer
-    ensures { outcome result bitmap.new
+) -> Result<u32, Refusal>
+    ensures { outcome (answer_of result) bitmap.new
         ≡ Vertical.scan words.now width n op a b bitmap.old }
 {
-    match arguments_of(width, n, op, a, b) {
-        Arguments::Bad(code) => refused(code),
-        Arguments::Good(band) => scan_band(words, width, n, band, bitmap),
-    }
+    let band = arguments_of(width, n, op, a, b)?;
+    scan_band(words, width, n, band, bitmap)
 }

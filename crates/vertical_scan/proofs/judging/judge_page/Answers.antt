@@ -1,4 +1,4 @@
--- `vertical_scan::judging::page_fault` meets its contract: each test is one of the listed faults.
+-- `vertical_scan::judging::judge_page` meets its contract: each test is one of the listed faults.
 use mathlib.Core.Path.{sym, ap, ◌∙◌}
 use Rattle.std.specs.Prelude.{◌≢◌}
 use Prim.Native.Nat.{ℕ, ◌+◌, ◌*◌, ◌/◌, ◌%◌, ◌^◌, ◌≤◌}
@@ -10,7 +10,7 @@ use Rattle.rules.specs.Vertical.{page_fault}
 use Rattle.words.specs.Entries.{place-within}
 use Rattle.vertical_scan.specs.UnusedLanes.{unused-rest, unused-none}
 use Rattle.vertical_scan.specs.GoodColumn.{words_le}
-use Rattle.vertical_scan.proofs.judging.page_fault.Goals as goal
+use Rattle.vertical_scan.proofs.judging.judge_page.Goals as goal
 
 pub overflow_mul-need : goal.overflow_mul-need
 overflow_mul-need c = let a = c.args in omega (arith, words_le a.width a.n (omega arith) (omega arith))
