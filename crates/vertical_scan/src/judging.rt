@@ -36,7 +36,8 @@ pub fn judge_page(words: &[u64], width: u32, n: usize) -> Result<(), Refusal>
         return Ok(());
     }
     if all_planes(words, n / 64 * w, w) >> rest > 0 {
-        return Err(Refusal::UnusedBitsNot0);
+        Err(Refusal::UnusedBitsNot0)
+    } else {
+        Ok(())
     }
-    Ok(())
 }
