@@ -1,7 +1,7 @@
 // The two ways of writing entries as they are reached: into places, or, tested, into the bitmap.
-ghost use Rattle.std.specs.Prelude.{◌≡◌, ℕ, List, ◌+◌, ◌%◌, ◌<◌, ◌≤◌, length};
+ghost use Rattle.std.specs.Prelude.{◌≡◌, ℕ, List, ◌+◌, ◌%◌, ◌<◌, ◌≤◌};
 ghost use Rattle.signed.specs.Reached.{reached};
-ghost use Rattle.compare.specs.Range.{ranged, BoundedRange};
+ghost use Rattle.compare.specs.Range.{ranged};
 ghost use Rattle.delta_octets.specs.Steps.{packed_step};
 ghost use Rattle.delta_octets.specs.TwoWritings.{places, selects};
 ghost use Rattle.delta_octets.specs.Writings.{WritingLaws, PlacesRoom, SelectsRoom, places_laws, selects_laws};

@@ -30,8 +30,13 @@ returns-in-Unopened c =
 
 pub write_blocks-requires : goal.write_blocks-requires
 write_blocks-requires c =
-    let h = sym c.head_at-head.ensures ∙ c.in-Opened.is in
-    (omega arith, c.requires.0, head-shaped 32 _ _ h, (omega arith, omega arith, c.requires.3), blocks-good 32 _ _ c.requires.2 h)
+    let h = sym c.head_at-head.ensures ∙ c.in-Opened.is in (
+      omega arith,
+      c.requires.0,
+      head-shaped 32 _ _ h,
+      (omega arith, omega arith, c.requires.3),
+      blocks-good 32 _ _ c.requires.2 h,
+    )
 
 pub returns : goal.returns
 returns c =

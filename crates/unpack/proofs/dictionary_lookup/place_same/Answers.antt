@@ -11,6 +11,7 @@ pub returns : goal.returns
 returns c =
     let v = c.value_any in
     let a = c.args in
-    filled a.entries.now c.fill.new.self a.p _ _ a.m _ (c.fill.ensures.after (search rules)) (search rules) (omega arith)
+    filled a.entries.now c.fill.new.self a.p _ _ a.m _ (c.fill.ensures.after (search rules))
+    (search rules) (omega arith)
     ∙ ap (λ (x : ℤ). put a.entries.now a.p (tabulate a.m (λ _. x)))
     (to_z-of_z w32 v.result (record { sfits = v.type_inv }) ∙ v.ensures)

@@ -6,4 +6,5 @@ use Rattle.unpack.proofs.runs_placing.place_same.Goals as goal
 pub returns : goal.returns
 returns c =
     let a = c.args in
-    filled a.entries.now c.fill.new.self a.p _ _ a.m a.value (c.fill.ensures.after (search rules)) (search rules) (omega arith)
+    filled a.entries.now c.fill.new.self a.p _ _ a.m a.value (c.fill.ensures.after (search rules))
+    (search rules) (omega arith)
