@@ -73,30 +73,30 @@ module _ (group : List ℕ) (few : length group ≤ 32) where
         (omega (arith, lane-fits group 0 (length group) j few)) known))
         (least-alike (length group) _ _ (λ i l m. ap not (same-undecided i)))
 
--- ---- whatever a call was given: the group's planes, and a band
+-- ---- whatever a call was given: the group's planes, and a band with its ends
 
-pub group_compared : Every 3 compare_kinds.ps compare_kinds.r compare_reads.Learnt (λ κs g r e.
-    (op : ℕ) (a b : ℤ) → band_of op a b ≡ Some g.1.0 → length g.0.now ≤ 32
+pub group_compared : Every 2 compare_kinds.ps compare_kinds.r compare_reads.Learnt (λ κs g r e.
+    (op : ℕ) (a b : ℤ) → band_of op a b ≡ Some g.1.0.now.band → length g.0.now ≤ 32
     → r ≡ compared g.0.now op a b)
-group_compared κs g r e contract op a b known few = contract ∙ by-band g.0.now few op a b g.1.0 known
+group_compared κs g r e contract op a b known few = contract ∙ by-band g.0.now few op a b g.1.0.now.band known
 
-pub four_compared_lem : Every 6 compare_four_kinds.ps compare_four_kinds.r compare_four_reads.Learnt (λ κs g r e.
-    (op : ℕ) (a b : ℤ) → band_of op a b ≡ Some g.1.1.1.1.0
-    → length g.0.now ≤ 32 → length g.1.0.now ≤ 32
-    → length g.1.1.0.now ≤ 32 → length g.1.1.1.0.now ≤ 32
+pub four_compared_lem : Every 2 compare_four_kinds.ps compare_four_kinds.r compare_four_reads.Learnt (λ κs g r e.
+    (op : ℕ) (a b : ℤ) → band_of op a b ≡ Some g.1.0.now.band
+    → length g.0.first.now ≤ 32 → length g.0.second.now ≤ 32
+    → length g.0.third.now ≤ 32 → length g.0.fourth.now ≤ 32
     → r ≡ record {
-      first = compared g.0.now op a b;
-      second = compared g.1.0.now op a b;
-      third = compared g.1.1.0.now op a b;
-      fourth = compared g.1.1.1.0.now op a b;
+      first = compared g.0.first.now op a b;
+      second = compared g.0.second.now op a b;
+      third = compared g.0.third.now op a b;
+      fourth = compared g.0.fourth.now op a b;
     })
 four_compared_lem κs g r e contract op a b known first second third fourth =
     contract
     ∙ rw (
-      by-band g.0.now first op a b g.1.1.1.1.0 known,
-      by-band g.1.0.now second op a b g.1.1.1.1.0 known,
-      by-band g.1.1.0.now third op a b g.1.1.1.1.0 known,
-      by-band g.1.1.1.0.now fourth op a b g.1.1.1.1.0 known,
+      by-band g.0.first.now first op a b g.1.0.now.band known,
+      by-band g.0.second.now second op a b g.1.0.now.band known,
+      by-band g.0.third.now third op a b g.1.0.now.band known,
+      by-band g.0.fourth.now fourth op a b g.1.0.now.band known,
     )
 
 -- ---- two groups that are alike in the planes taken get the same
@@ -112,13 +112,13 @@ alike g h size few op a b band known same =
     ∙ by-band g few op a b band known
 
 -- so two calls with one band, whatever the planes hold that the first did not take
-pub alike_called : Every 3 compare_kinds.ps compare_kinds.r compare_reads.Learnt (λ κs g r e.
-    Every 3 compare_kinds.ps compare_kinds.r compare_reads.Learnt (λ κs' h s e'.
-    h.1.0 ≡ g.1.0 → length g.0.now ≡ length h.0.now
+pub alike_called : Every 2 compare_kinds.ps compare_kinds.r compare_reads.Learnt (λ κs g r e.
+    Every 2 compare_kinds.ps compare_kinds.r compare_reads.Learnt (λ κs' h s e'.
+    h.1.0.now.band ≡ g.1.0.now.band → length g.0.now ≡ length h.0.now
     → take r.taken g.0.now ≡ take r.taken h.0.now → s ≡ r))
 alike_called κs g r e contract κs' h s e' contract' band size same =
     let taken = ap (λ (c : Compared). c.taken) contract in
     contract' ∙ ap (band_compared h.0.now) band
-    ∙ band-alike g.0.now h.0.now size g.1.0
+    ∙ band-alike g.0.now h.0.now size g.1.0.now.band
     (subst (λ (k : ℕ). take k g.0.now ≡ take k h.0.now) taken same)
     ∙ sym contract

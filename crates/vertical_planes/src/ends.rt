@@ -63,7 +63,7 @@ pub fn spread(c: u64, w: usize, masks: &mut [u64])
     }
 }
 
-// A band for groups of w planes. Its ends' bits are laid out, the highest first, each in all lanes of a word: the low
+// A band for groups of w planes, with its ends' bits laid out in all lanes of a word, the highest first: the low
 // end's, and ones where the high end's is another.
 #[derive(Drop)]
 pub struct Ends {

@@ -70,54 +70,47 @@ fn step_four(four: Four<Lanes>, planes: Four<u64>, low: u64, apart: u64) -> Four
 }
 
 // Plane i of each.
-fn planes_at(first: &[u64], second: &[u64], third: &[u64], fourth: &[u64], i: usize) -> Four<u64>
-    requires { (i < length first.now) × (i < length second.now) × (i < length third.now)
-        × (i < length fourth.now) }
+fn planes_at(groups: Four<&[u64]>, i: usize) -> Four<u64>
+    requires { (i < length groups.first.now) × (i < length groups.second.now)
+        × (i < length groups.third.now) × (i < length groups.fourth.now) }
     ensures { result ≡ record {
-      first = get_or first.now i 0;
-      second = get_or second.now i 0;
-      third = get_or third.now i 0;
-      fourth = get_or fourth.now i 0;
+      first = get_or groups.entry.first.now i 0;
+      second = get_or groups.entry.second.now i 0;
+      third = get_or groups.entry.third.now i 0;
+      fourth = get_or groups.entry.fourth.now i 0;
     } }
 {
     Four {
-        first: first[i],
-        second: second[i],
-        third: third[i],
-        fourth: fourth[i],
+        first: groups.first[i],
+        second: groups.second[i],
+        third: groups.third[i],
+        fourth: groups.fourth[i],
     }
 }
 
 // Four groups of the same width: as `compare` does each.
-pub fn compare_four(
-    first: &[u64],
-    second: &[u64],
-    third: &[u64],
-    fourth: &[u64],
-    ends: &Ends,
-) -> Four<Compared>
-    requires { (length first.now ≡ ends.now.w) × (length second.now ≡ ends.now.w)
-        × (length third.now ≡ ends.now.w) × (length fourth.now ≡ ends.now.w) }
-    ensures { result ≡ four_compared first.now second.now third.now
-        fourth.now ends.now.band }
+pub fn compare_four(groups: Four<&[u64]>, ends: &Ends) -> Four<Compared>
+    requires { (length groups.first.now ≡ ends.now.w) × (length groups.second.now ≡ ends.now.w)
+        × (length groups.third.now ≡ ends.now.w) × (length groups.fourth.now ≡ ends.now.w) }
+    ensures { result ≡ four_compared groups.entry.first.now groups.entry.second.now groups.entry.third.now
+        groups.entry.fourth.now ends.now.band }
 {
     let mut four = Four {
-        first: begin(first, ends),
-        second: begin(second, ends),
-        third: begin(third, ends),
-        fourth: begin(fourth, ends),
+        first: begin(groups.first, ends),
+        second: begin(groups.second, ends),
+        third: begin(groups.third, ends),
+        fourth: begin(groups.fourth, ends),
     };
     if in_step(four) {
-        while four.first.taken < first.len() && all_open(four) {
+        while four.first.taken < ends.w && all_open(four) {
             let i = four.first.taken;
-            let planes = planes_at(first, second, third, fourth, i);
-            four = step_four(four, planes, ends.lows[i], ends.apart[i]);
+            four = step_four(four, planes_at(groups, i), ends.lows[i], ends.apart[i]);
         }
     }
     Four {
-        first: finish(first, ends, four.first),
-        second: finish(second, ends, four.second),
-        third: finish(third, ends, four.third),
-        fourth: finish(fourth, ends, four.fourth),
+        first: finish(groups.first, ends, four.first),
+        second: finish(groups.second, ends, four.second),
+        third: finish(groups.third, ends, four.third),
+        fourth: finish(groups.fourth, ends, four.fourth),
     }
 }

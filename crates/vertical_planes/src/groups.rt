@@ -43,8 +43,8 @@ pub fn finish(planes: &[u64], ends: &Ends, lanes: Lanes) -> Compared
     told(ends.band, left)
 }
 
-// The planes of one group and a band's ends in; a bit for each lane that the band selects out, and how many planes were
-// taken.
+// The planes of one group and a band's ends in; a bit for each lane that the band selects out, and how many
+// planes were taken.
 pub fn compare(planes: &[u64], ends: &Ends) -> Compared
     requires { length planes.now ≡ ends.now.w }
     ensures { result ≡ band_compared planes.now ends.now.band }

@@ -38,13 +38,13 @@ fn four_groups(words: &[u64], g: usize, ends: &Ends) -> Four<Compared>
     let third = second + ends.w;
     let fourth = third + ends.w;
     let end = fourth + ends.w;
-    compare_four(
-        &words[first..second],
-        &words[second..third],
-        &words[third..fourth],
-        &words[fourth..end],
-        ends,
-    )
+    let groups = Four {
+        first: &words[first..second],
+        second: &words[second..third],
+        third: &words[third..fourth],
+        fourth: &words[fourth..end],
+    };
+    compare_four(groups, ends)
 }
 
 // The first 4 × m groups, eight bytes each.

@@ -71,8 +71,8 @@ fn some_planes(entries: &[u32], w: usize, k: usize, n: usize, planes: &mut [u64]
     }
 }
 
-// The w planes of a group of at most 64 entries; a lane past them is 0. First come the planes that are left over
-// of eights.
+// The w planes of a group of at most 64 entries; a lane past them is 0. First come the planes that are left
+// over of eights.
 pub fn pack_group(entries: &[u32], w: usize, planes: &mut [u64])
     requires { (w ≤ 32) × (length entries.now ≤ 64) × (w ≤ length planes.old) }
     ensures { planes.new

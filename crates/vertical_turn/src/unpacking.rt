@@ -54,8 +54,8 @@ fn clear(m: usize, entries: &mut [u32])
     entries[..m].fill(0);
 }
 
-// The first m entries of a group's planes, into the first m places. First come the planes that are left over of
-// eights.
+// The first m entries of a group's planes, into the first m places. First come the planes that are left over
+// of eights.
 pub fn unpack_group(planes: &[u64], m: usize, entries: &mut [u32])
     requires { (length planes.now ≤ 32) × (m ≤ 64) × (m ≤ length entries.old) }
     ensures { entries.new

@@ -46,26 +46,30 @@ loop-four-preserved c =
     all_open f.first.undecided f.second.undecided f.third.undecided f.fourth.undecided (cc) in
     let upper : (f.first.upper < 2 ^ 64) × (f.second.upper < 2 ^ 64) × (f.third.upper < 2 ^ 64)
     × (f.fourth.upper < 2 ^ 64) = (omega arith, omega arith, omega arith, omega arith) in
+    let r = c.planes_at.result in
+    let fits : (r.first < 2 ^ 64) × (r.second < 2 ^ 64) × (r.third < 2 ^ 64) × (r.fourth < 2 ^ 64) =
+    (omega arith, omega arith, omega arith, omega arith) in
+    let small = rw c.planes_at.ensures at fits in
     let w = a.ends.now.w in
     let masked = c.args.ends.now.masked in
-    rw (c.step_four-four.ensures, c.planes_at-planes.ensures) (
+    rw (c.step_four-four.ensures, c.planes_at.ensures) (
       (ap (λ (k : ℕ). k + 1) same.0, ap (λ (k : ℕ). k + 1) same.1, ap (λ (k : ℕ). k + 1) same.2),
       (
-        next_of a.first.now a.ends.now.lows a.ends.now.apart a.ends.now.band w i c.requires.0 more masked
-            f.first refl some.0 (c.type_inv.first i).fits upper.0 stand.0,
-        next_of a.second.now a.ends.now.lows a.ends.now.apart a.ends.now.band w i c.requires.1 more masked
-            f.second same.0 some.1 (c.type_inv.second i).fits upper.1 stand.1,
-        next_of a.third.now a.ends.now.lows a.ends.now.apart a.ends.now.band w i c.requires.2 more masked
-            f.third same.1 some.2 (c.type_inv.third i).fits upper.2 stand.2,
-        next_of a.fourth.now a.ends.now.lows a.ends.now.apart a.ends.now.band w i c.requires.3 more masked
-            f.fourth same.2 some.3 (c.type_inv.fourth i).fits upper.3 stand.3,
+        next_of a.groups.first.now a.ends.now.lows a.ends.now.apart a.ends.now.band w i c.requires.0 more masked
+            f.first refl some.0 small.0 upper.0 stand.0,
+        next_of a.groups.second.now a.ends.now.lows a.ends.now.apart a.ends.now.band w i c.requires.1 more masked
+            f.second same.0 some.1 small.1 upper.1 stand.1,
+        next_of a.groups.third.now a.ends.now.lows a.ends.now.apart a.ends.now.band w i c.requires.2 more masked
+            f.third same.1 some.2 small.2 upper.2 stand.2,
+        next_of a.groups.fourth.now a.ends.now.lows a.ends.now.apart a.ends.now.band w i c.requires.3 more masked
+            f.fourth same.2 some.3 small.3 upper.3 stand.3,
       ),
     )
 
 pub finish-requires : goal.finish-requires
 finish-requires c =
     let a = c.args in
-    let standing : Standing a.first.now a.ends.now.band c.if-in_step.four.first =
+    let standing : Standing a.groups.first.now a.ends.now.band c.if-in_step.four.first =
     elim c.if-in_step.branch [
       | then-in_step+then-loop-four-test+else-all_open w ↦ rw w.four-is w.loop-four.invariant.1.0
       | then-in_step+else-loop-four-test w ↦ rw w.four-is w.loop-four.invariant.1.0
@@ -76,7 +80,7 @@ finish-requires c =
 pub finish-requires-2 : goal.finish-requires-2
 finish-requires-2 c =
     let a = c.args in
-    let standing : Standing a.second.now a.ends.now.band c.if-in_step.four.second =
+    let standing : Standing a.groups.second.now a.ends.now.band c.if-in_step.four.second =
     elim c.if-in_step.branch [
       | then-in_step+then-loop-four-test+else-all_open w ↦ rw w.four-is w.loop-four.invariant.1.1
       | then-in_step+else-loop-four-test w ↦ rw w.four-is w.loop-four.invariant.1.1
@@ -87,7 +91,7 @@ finish-requires-2 c =
 pub finish-requires-3 : goal.finish-requires-3
 finish-requires-3 c =
     let a = c.args in
-    let standing : Standing a.third.now a.ends.now.band c.if-in_step.four.third =
+    let standing : Standing a.groups.third.now a.ends.now.band c.if-in_step.four.third =
     elim c.if-in_step.branch [
       | then-in_step+then-loop-four-test+else-all_open w ↦ rw w.four-is w.loop-four.invariant.1.2
       | then-in_step+else-loop-four-test w ↦ rw w.four-is w.loop-four.invariant.1.2
@@ -98,7 +102,7 @@ finish-requires-3 c =
 pub finish-requires-4 : goal.finish-requires-4
 finish-requires-4 c =
     let a = c.args in
-    let standing : Standing a.fourth.now a.ends.now.band c.if-in_step.four.fourth =
+    let standing : Standing a.groups.fourth.now a.ends.now.band c.if-in_step.four.fourth =
     elim c.if-in_step.branch [
       | then-in_step+then-loop-four-test+else-all_open w ↦ rw w.four-is w.loop-four.invariant.1.3
       | then-in_step+else-loop-four-test w ↦ rw w.four-is w.loop-four.invariant.1.3

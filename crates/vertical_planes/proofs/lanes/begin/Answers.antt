@@ -15,7 +15,8 @@ returns-then-lower-upper-ne0 c =
     let high : to_z w64 (of_z w64 a.ends.now.band.high) ≡ a.ends.now.band.high = search rules in
     let lower : Started w a.ends.now.band.low c.start-lower.result = rw low at c.start-lower.ensures in
     let upper : Started w a.ends.now.band.high c.start-upper.result = rw high at c.start-upper.ensures in
-    c.together.ensures a.ends.now.band (rw c.requires c.args.ends.now.masked) (within _ a.ends.now.band _ _ lower upper c.if-lower-upper-ne0.true)
+    c.together.ensures a.ends.now.band (rw c.requires c.args.ends.now.masked)
+    (within _ a.ends.now.band _ _ lower upper c.if-lower-upper-ne0.true)
 
 pub returns : goal.returns
 returns c =

@@ -38,7 +38,8 @@ returns c =
     let a = c.args in
     let q = a.n / 64 in
     let r = a.n % 64 in
-    let bits : c.group_bits.result % ((1 * 2 ^ r) % 2 ^ 64) ≡ lanes64 a.words.now (q * a.ends.now.w) a.ends.now.w a.ends.now.band % 2 ^ r =
+    let bits : c.group_bits.result % ((1 * 2 ^ r) % 2 ^ 64)
+    ≡ lanes64 a.words.now (q * a.ends.now.w) a.ends.now.w a.ends.now.band % 2 ^ r =
     rw (one_shl 64 r (omega arith), c.group_bits.ensures) in
     let all : 64 * q + r ≡ a.n = omega arith in
     c.store_low.ensures

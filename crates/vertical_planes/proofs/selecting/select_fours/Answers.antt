@@ -33,7 +33,8 @@ loop-k-preserved c =
     (c.store8-in-loop-k.ensures
     ∙ ap (λ x. put x (8 * (g + 1)) (bytes 8 r.second.bits))
     (c.store8.ensures ∙ ap (λ x. put x (8 * g) (bytes 8 r.first.bits)) l.invariant)))
-    ∙ next_four a.bitmap.now a.words.now a.ends.now.w a.ends.now.band g _ _ _ _ (omega arith) sums.0 sums.1 sums.2 sums.3
+    ∙ next_four a.bitmap.now a.words.now a.ends.now.w a.ends.now.band g _ _ _ _ (omega arith)
+    sums.0 sums.1 sums.2 sums.3
     ∙ ap (λ (k : ℕ). put a.bitmap.now 0 (chosen a.words.now k a.ends.now.w a.ends.now.band)) more
 
 pub returns : goal.returns

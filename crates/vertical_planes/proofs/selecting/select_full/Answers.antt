@@ -28,7 +28,8 @@ loop-g-preserved c =
     let g = l.g in
     c.store8.ensures
     ∙ ap (λ y. put y (8 * g) (bytes 8 c.group_bits.result)) l.invariant
-    ∙ next_group a.bitmap.now a.words.now a.ends.now.w a.ends.now.band g (g + 1) (g * a.ends.now.w) _ refl refl (omega arith) c.group_bits.ensures
+    ∙ next_group a.bitmap.now a.words.now a.ends.now.w a.ends.now.band g (g + 1) (g * a.ends.now.w) _ refl refl
+    (omega arith) c.group_bits.ensures
 
 pub returns : goal.returns
 returns c =
