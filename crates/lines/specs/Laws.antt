@@ -1,12 +1,13 @@
 -- Laws of a line's text: what is laid out piece by piece is laid out at once, and a full line keeps what it holds.
-use Rattle.std.specs.Prelude.{◌≡◌, refl, List, [], ◌∷◌, ◌++◌, map, set, get_or}
+use Rattle.std.specs.Prelude.{◌≡◌, refl, Bool, cond, List, [], ◌∷◌, ◌++◌, map, set, get_or, ℤ, pos, negsuc, unsigned_abs}
 use Rattle.std.proofs.Math.Path.{sym, ap}
-use Rattle.std.proofs.Common.{◌∙◌, append_assoc, append-nil, add-one, arith, take-suc}
+use Rattle.std.proofs.Common.{◌∙◌, append_assoc, append-nil, add-one, arith, take-suc, le-ltb}
 use Prim.Native.Nat.{ℕ, zero, suc, ◌+◌, ◌-◌, ◌≤◌, ◌<◌, min}
 use Rattle.std.proofs.Math.ListN.{take, length, replicate, length-take, length-append}
 use Rattle.std.proofs.lemmas.List.{length-map, take-append-le}
 use Rattle.std.proofs.Math.Seq.{take_all, take-suc-set}
-use Rattle.lines.specs.Text.{laid, spelled, padding}
+use lib.Signed.{lt_z}
+use Rattle.lines.specs.Text.{laid, decimal, signed_decimal, spelled, padding}
 
 take_more : (n : ℕ) (l a : List ℕ) → take n (take n l ++ a) ≡ take n (l ++ a)
 take_more zero l a = refl
@@ -16,6 +17,9 @@ take_more (suc n) (x ∷ l) a = ap (λ r. x ∷ r) (take_more n l a)
 pub laid-laid : (text a b : List ℕ) → laid (laid text a) b ≡ laid text (a ++ b)
 unfolding laid
 laid-laid text a b = take_more 120 (text ++ a) b ∙ ap (λ l. take 120 l) (append_assoc text a b)
+
+pub laid-none : (text a : List ℕ) → laid text a ≡ laid (laid text a) []
+laid-none text a = sym (laid-laid text a [] ∙ ap (λ l. laid text l) (append-nil a))
 
 pub three : (text : List ℕ) (a b c : ℕ)
     → laid (laid (laid text (a ∷ [])) (b ∷ [])) (c ∷ []) ≡ laid text (a ∷ b ∷ c ∷ [])
@@ -63,6 +67,15 @@ module _ (text : List ℕ) (used : ℕ) (long : length text ≡ 120) where
       let same : k ≡ min at 120 - length (take used text) = omega (arith, length-take used text) in
       ap (λ l. laid (take used text) l) (take-replicate k 120 32 (omega arith) ∙ ap (λ n. replicate n 32) same)
 
+-- ---- signed numbers
+
+-- by its sign and its distance from 0
+pub sign-digits : (z : ℤ) (below : Bool) (d : ℕ) → lt_z z (pos 0) ≡ below → d ≡ unsigned_abs z
+    → cond below (45 ∷ decimal d) (decimal d) ≡ signed_decimal z
+unfolding signed_decimal
+sign-digits (pos n) below d is e = rw (← is, e, le-ltb n 0 (omega arith))
+sign-digits (negsuc n) below d is e = rw (← is, e)
+
 -- ---- lists
 
 pub next : (held text : List ℕ) (words : List ℕ) (i : ℕ) → i < length words → text ≡ laid held (take i words)
@@ -71,33 +84,22 @@ next held text words i h e =
     ap (λ t. laid t (get_or words i 0 ∷ [])) e ∙ laid-laid held (take i words) (get_or words i 0 ∷ [])
     ∙ ap (λ l. laid held l) (sym (ap (λ k. take k words) (add-one i) ∙ take-suc words i 0 h))
 
-spelled-end : (f : ℕ → List ℕ) (l : List ℕ) (x : ℕ) → spelled f (l ++ (x ∷ [])) ≡ spelled f l ++ (32 ∷ f x)
-unfolding spelled
-spelled-end f [] x = append-nil (32 ∷ f x)
-spelled-end f (y ∷ l) x =
-    ap (λ r. (32 ∷ f y) ++ r) (spelled-end f l x) ∙ sym (append_assoc (32 ∷ f y) (spelled f l) (32 ∷ f x))
+module _ {A : Type 0} (f : A → List ℕ) (text whole : List ℕ) where
+  -- the first of the rest is spelled behind a blank, and the others behind it
+  pub spelled-next : (n m : ℕ) (x : A) (rest more : List A) → rest ≡ x ∷ more → m + 1 ≡ n
+      → laid text (spelled f (take n rest)) ≡ whole
+      → laid (laid (laid text (32 ∷ [])) (f x)) (spelled f (take m more)) ≡ whole
+  unfolding spelled
+  spelled-next n m x rest more is one e =
+      let suc-m : n ≡ suc m = omega arith in
+      ap (λ t. laid t (spelled f (take m more))) (laid-laid text (32 ∷ []) (f x))
+      ∙ laid-laid text (32 ∷ f x) (spelled f (take m more))
+      ∙ (rw (suc-m, is) at e)
 
--- the first i of the n to be spelled stand behind what was held
-abbrev pub Spelt : (ℕ → List ℕ) → ℕ → List ℕ → List ℕ → ℕ → List ℕ → Type 0
-Spelt f n list held i text = (i ≤ n) × (i ≤ length list) × (text ≡ laid held (spelled f (take i list)))
-
-module _ (f : ℕ → List ℕ) (n : ℕ) (list held : List ℕ) (i : ℕ) (text : List ℕ) (so : Spelt f n list held i text) where
-  pub spelt-next : (more : List ℕ) → i < n → i < length list → more ≡ laid text (32 ∷ f (get_or list i 0))
-      → Spelt f n list held (i + 1) more
-  spelt-next more h k e = (
-    omega arith,
-    omega arith,
-    e ∙ ap (λ t. laid t (32 ∷ f (get_or list i 0))) so.2
-        ∙ laid-laid held (spelled f (take i list)) (32 ∷ f (get_or list i 0))
-        ∙ ap (λ l. laid held l)
-        (sym
-        (ap (λ k. spelled f (take k list)) (add-one i) ∙ ap (λ l. spelled f l) (take-suc list i 0 k)
-        ∙ spelled-end f (take i list) (get_or list i 0))),
-  )
-
-  pub spelt_all : n ≤ i → text ≡ laid held (spelled f (take n list))
-  spelt_all h = let e : i ≡ n = omega arith in so.2 ∙ ap (λ k. laid held (spelled f (take k list))) e
-
-  -- past the list's end there is no more
-  pub spelt_list : length list ≤ i → text ≡ laid held (spelled f (take n list))
-  spelt_list h = so.2 ∙ ap (λ l. laid held (spelled f l)) (take_all i list h ∙ sym (take_all n list (omega arith)))
+  -- there is no rest
+  pub spelled_all : (n : ℕ) (rest : List A) → (0 < n → length rest ≡ 0) → text ≡ laid text []
+      → laid text (spelled f (take n rest)) ≡ whole → text ≡ whole
+  unfolding spelled
+  spelled_all zero rest none same e = same ∙ e
+  spelled_all (suc n) [] none same e = same ∙ e
+  spelled_all (suc n) (x ∷ rest) none same e = absurd (omega (arith, none (omega arith)))

@@ -2,6 +2,7 @@
 use Rattle.std.specs.Prelude.{cond, List, [], ◌∷◌, ◌++◌, ℕ, zero, suc, ◌+◌, ◌-◌, ◌/◌, ◌%◌, min, ltb, take, length, replicate}
 use Prim.Native.Char.{code}
 use Prim.Native.String.{String, [] as end, ◌∷◌ as char◌then◌}
+use lib.IntN.{ℤ, pos, negsuc}
 use Rattle.io.specs.Digits.{last_digits}
 use Rattle.lines.specs.declared.Line.{Line}
 
@@ -27,6 +28,11 @@ places (suc most) n = cond (ltb n 10) 1 (suc (places most (n / 10)))
 unfoldable pub decimal : ℕ → List ℕ
 decimal n = last_digits 10 (places 19 n) n
 
+-- a signed number in decimal digits, `-` (45) before them where it is below zero
+unfoldable pub signed_decimal : ℤ → List ℕ
+signed_decimal (pos n) = decimal n
+signed_decimal (negsuc n) = 45 ∷ decimal (suc n)
+
 -- the ASCII code of a hexadecimal digit: `0` to `9`, then `A` to `F`
 unfoldable pub hex_digit : ℕ → ℕ
 hex_digit d = cond (ltb d 10) (48 + d) (55 + d)
@@ -36,7 +42,7 @@ unfoldable pub hexadecimal : ℕ → List ℕ
 hexadecimal b = hex_digit (b / 16) ∷ hex_digit (b % 16) ∷ []
 
 -- each of a list by its spelling, a blank before it
-unfoldable pub spelled : (ℕ → List ℕ) → List ℕ → List ℕ
+unfoldable pub spelled : {A : Type 0} → (A → List ℕ) → List A → List ℕ
 spelled f [] = []
 spelled f (x ∷ xs) = (32 ∷ f x) ++ spelled f xs
 

@@ -1,11 +1,13 @@
 // A line of text: laid out first, then written. What is past its 120 places is left out.
 #![tactic(auto)]
 
+pub mod spelled;
 pub mod streams;
 
 ghost use Rattle.std.specs.Prelude.{◌≡◌, [], ◌∷◌, ◌<◌, ◌-◌, min, take};
-ghost use Rattle.lines.specs.Text.{held, laid, decimal, hex_digit, hexadecimal, spelled, padding};
+ghost use Rattle.lines.specs.Text.{held, laid, decimal, spelled, padding};
 
+use crate::spelled::Spelled;
 use crate::streams::{Stream, Streams};
 
 #[derive(Drop)]
@@ -30,34 +32,26 @@ impl Line {
         Line {
             text: [b' '; 120],
             used: 0,
-            lost: lost,
+            lost,
         }
     }
 
-    fn place(self, b: u8) -> Line
+    fn place(mut self, b: u8) -> Line
         ensures { held result ≡ laid (held self) (b ∷ []) }
     {
-        let at = self.used;
-        if 120 <= at {
-            return self;
+        if self.used < 120 {
+            self.text[self.used] = b;
+            self.used += 1;
         }
-        let mut text = self.text;
-        text[at] = b;
-        Line {
-            text: text,
-            used: at + 1,
-            lost: self.lost,
-        }
+        self
     }
 
     pub fn words(self, words: &[u8]) -> Line
         ensures { held result ≡ laid (held self) words.now }
     {
         let mut line = self;
-        let mut i: usize = 0;
-        while i < words.len() {
-            line = line.place(words[i]);
-            i += 1;
+        for b in words {
+            line = line.place(*b);
         }
         line
     }
@@ -70,42 +64,13 @@ impl Line {
         self.words(&digits[..k])
     }
 
-    // An entry, a blank before it.
-    fn entry(self, x: u32) -> Line
-        ensures { held result ≡ laid (held self) (32 ∷ decimal x) }
-    {
-        self.place(b' ').number(x as u64)
-    }
-
-    // The first n entries of a list.
-    pub fn entries(self, list: &[u32], n: usize) -> Line
-        ensures { held result ≡ laid (held self) (spelled decimal (take n list.now)) }
+    // The first n of a list, a blank before each.
+    pub fn entries<T: Spelled>(self, list: &[T], n: usize) -> Line
+        ensures { held result ≡ laid (held self) (spelled T.spelling (take n list.now)) }
     {
         let mut line = self;
-        let mut i: usize = 0;
-        while i < n && i < list.len() {
-            line = line.entry(list[i]);
-            i += 1;
-        }
-        line
-    }
-
-    // A byte in hexadecimal, a blank before it.
-    pub fn byte(self, b: u8) -> Line
-        ensures { held result ≡ laid (held self) (32 ∷ hexadecimal b) }
-    {
-        self.place(b' ').place(digit(b / 16)).place(digit(b % 16))
-    }
-
-    // The first n bytes of a list.
-    pub fn bytes(self, list: &[u8], n: usize) -> Line
-        ensures { held result ≡ laid (held self) (spelled hexadecimal (take n list.now)) }
-    {
-        let mut line = self;
-        let mut i: usize = 0;
-        while i < n && i < list.len() {
-            line = line.byte(list[i]);
-            i += 1;
+        for x in list.iter().take(n) {
+            line = x.spell(line.place(b' '));
         }
         line
     }
@@ -114,18 +79,15 @@ impl Line {
     pub fn column(self, at: usize) -> Line
         ensures { held result ≡ laid (held self) (padding at (held self)) }
     {
-        let blanks = [b' '; 120];
         let k = gap(self.used, at);
-        self.words(&blanks[0..k])
+        self.words(&[b' '; 120][..k])
     }
 
     // Writes what is laid out so far, and gives back an empty line in which it goes on.
     pub fn part(self, streams: &Streams, to: Stream) -> Line
         ensures { held result ≡ [] }
     {
-        let text = self.text;
-        let all: &[u8; 120] = &text;
-        let is_taken = written_front(streams, to, all, self.used);
+        let is_taken = streams.write_all(to, self.front());
         Line::behind(self.lost || !is_taken)
     }
 
@@ -133,9 +95,7 @@ impl Line {
     pub fn write(self, streams: &Streams, to: Stream) -> Line
         ensures { held result ≡ [] }
     {
-        let text = self.text;
-        let all: &[u8; 120] = &text;
-        let is_taken = written_front(streams, to, all, self.used) && streams.write_all(to, b"\n");
+        let is_taken = streams.write_all(to, self.front()) && streams.write_all(to, b"\n");
         Line::behind(self.lost || !is_taken)
     }
 
@@ -145,34 +105,16 @@ impl Line {
     {
         self.write(streams, Stream::Output)
     }
+
+    // What is laid out so far.
+    fn front(&self) -> &[u8] {
+        &self.text[..self.used.min(120)]
+    }
 }
 
 // How many blanks bring a line to place `at`, or to its end.
 fn gap(used: usize, at: usize) -> usize
     ensures { result ≡ min at 120 - used }
 {
-    if at <= used {
-        return 0;
-    }
-    if 120 <= used {
-        return 0;
-    }
-    if 120 <= at {
-        return 120 - used;
-    }
-    at - used
-}
-
-fn digit(d: u8) -> u8
-    requires { d < 16 }
-    ensures { result ≡ hex_digit d }
-{
-    if d < 10 { b'0' + d } else { b'A' - 10 + d }
-}
-
-fn written_front(streams: &Streams, to: Stream, text: &[u8], n: usize) -> bool {
-    if text.len() < n {
-        return false;
-    }
-    streams.write_all(to, &text[0..n])
+    at.min(120).saturating_sub(used)
 }

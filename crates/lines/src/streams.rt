@@ -18,8 +18,8 @@ pub struct Streams {
 impl Streams {
     pub fn new(output: Stdout, errors: Stderr) -> Streams {
         Streams {
-            output: output,
-            errors: errors,
+            output,
+            errors,
             failure: Cell::new(None),
         }
     }
@@ -33,13 +33,10 @@ impl Streams {
             Stream::Output => self.output.write_all(bytes),
             Stream::Errors => self.errors.write_all(bytes),
         };
-        match written {
-            Ok(()) => true,
-            Err(error) => {
-                self.fails(error);
-                false
-            }
+        if let Err(error) = written {
+            self.fails(error);
         }
+        written.is_ok()
     }
 
     // Keeps why bytes were not taken.
@@ -49,10 +46,9 @@ impl Streams {
 
     // Has the reader of what is written gone: nothing more is written then.
     pub fn is_closed(&self) -> bool {
-        match self.failure.get() {
-            Some(error) => error.kind() == ErrorKind::BrokenPipe,
-            None => false,
-        }
+        self.failure
+            .get()
+            .is_some_and(|error| error.kind() == ErrorKind::BrokenPipe)
     }
 
     // Why bytes were last not taken.

@@ -2,8 +2,9 @@
 -- many of each cell.
 use Rattle.std.specs.Prelude.{◌≡◌, Bool, true, false, cond, ◌&&◌, List, eqb, ltb, get_or, set}
 use Rattle.std.proofs.Common.{sym, ap, ◌∙◌, eq-eqb, ne_eqb}
-use Prim.Native.Nat.{ℕ, zero, suc, ◌+◌, ◌-◌, ◌/◌, ◌≤◌}
+use Prim.Native.Nat.{ℕ, zero, suc, ◌+◌, ◌-◌, ◌/◌, ◌^◌, ◌≤◌, ◌<◌, min}
 use native.Mathlib.Omega.{arith}
+use Rattle.std.proofs.lemmas.Bool.Decides.{nat_tests}
 use Rattle.rules.specs.Bits.{flag, bit_at}
 use Rattle.rules.specs.Bits.Order.{low_first}
 use Rattle.scan_day.specs.declared.passing.Passed.{Passed}
@@ -11,6 +12,9 @@ use Rattle.scan_day.specs.declared.passing.Passed.{Passed}
 -- one more, where 64 bits have room for it
 abbrev pub more : ℕ → ℕ
 more x = cond (ltb x 18446744073709551615) (x + 1) x
+
+pub more-saturates : (x : ℕ) → x < 2 ^ 64 → min (x + 1) (2 ^ 64 - 1) ≡ more x
+more-saturates x fits = grind (arith, nat_tests)
 
 abbrev pub fresh : Passed
 fresh = record { read = 0; count = 0; first = 0; last = 0; lost = 0 }

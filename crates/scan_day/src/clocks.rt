@@ -10,9 +10,10 @@ fn two_digits(line: Line, n: usize) -> Line
     ensures { held result ≡ laid (held line) (two_digits n) }
 {
     if n < 10 {
-        return line.words(b"0").number(n as u64);
+        line.words(b"0").number(n as u64)
+    } else {
+        line.number(n as u64)
     }
-    line.number(n as u64)
 }
 
 // A day by its number; the first goes without saying.
@@ -20,9 +21,10 @@ fn of_day(line: Line, day: u64) -> Line
     ensures { held result ≡ laid (held line) (of_day day) }
 {
     if day == 1 {
-        return line.words(b"");
+        line
+    } else {
+        line.words(b" of day ").number(day)
     }
-    line.words(b" of day ").number(day)
 }
 
 // Hour, minute and second of a second, which are counted from the beginning of a day.

@@ -1,7 +1,7 @@
 // What is kept of the pages passed: how many seconds are selected, the first and the last, and the cells of
 // the days. Seconds are counted from the beginning of the column's first day.
 ghost use Rattle.std.specs.Prelude.{◌≡◌, true, ◌-◌};
-ghost use Rattle.scan_day.specs.SecondsPassed.{more, fresh, losing, reading, selecting, passing};
+ghost use Rattle.scan_day.specs.SecondsPassed.{fresh, losing, reading, selecting, passing};
 ghost use Rattle.scan_day.specs.SecondsPassed.{passed, in_cell, counting, counts, chosen_by};
 
 use bitmaps::is_set;
@@ -16,7 +16,7 @@ pub const DAYS: usize = 195;
 
 pub const CELLS: usize = 14040;
 
-#[derive(Clone, Copy)]
+#[derive(Clone, Copy, Default)]
 pub struct Passed {
     // seconds of pages that were answered
     pub read: usize,
@@ -32,47 +32,34 @@ impl Passed {
     pub fn new() -> Passed
         ensures { result ≡ fresh }
     {
-        Passed {
-            read: 0,
-            count: 0,
-            first: 0,
-            last: 0,
-            lost: 0,
-        }
+        Passed::default()
     }
 
     pub fn loses(mut self) -> Passed
         ensures { result ≡ losing self }
     {
-        self.lost = one_more(self.lost);
+        self.lost = self.lost.saturating_add(1);
         self
     }
 
     fn reads(mut self) -> Passed
         ensures { result ≡ reading self }
     {
-        self.read = one_more(self.read);
+        self.read = self.read.saturating_add(1);
         self
     }
 
-    fn selects(mut self, second: usize) -> Passed
+    fn selects(self, second: usize) -> Passed
         ensures { result ≡ selecting second self }
     {
-        let held = self.count;
-        self.count = one_more(held);
-        self.last = second;
-        if held == 0 {
-            self.first = second;
-            return self;
+        let first = if self.count == 0 { second } else { self.first };
+        Passed {
+            count: self.count.saturating_add(1),
+            first,
+            last: second,
+            ..self
         }
-        self
     }
-}
-
-pub fn one_more(x: usize) -> usize
-    ensures { result ≡ more x }
-{
-    if x < usize::MAX { x + 1 } else { x }
 }
 
 // One second more in its cell; past the last day there are no cells.
@@ -80,12 +67,8 @@ fn counted(cells: &mut [u32; CELLS], second: usize)
     ensures { cells.new ≡ in_cell second cells.old }
 {
     let c = second / CELL;
-    if CELLS <= c {
-        return;
-    }
-    let held = cells[c];
-    if held < CELL as u32 {
-        cells[c] = held + 1;
+    if c < CELLS && cells[c] < CELL as u32 {
+        cells[c] += 1;
     }
 }
 
@@ -102,11 +85,12 @@ fn second_passed(
 {
     counted(answered, second);
     let passed = before.reads();
-    if !is_selected {
-        return passed;
+    if is_selected {
+        counted(selected, second);
+        passed.selects(second)
+    } else {
+        passed
     }
-    counted(selected, second);
-    passed.selects(second)
 }
 
 // The seconds of an answered page, from `start` to before `end`; bit 0 of its bitmap is the first.
@@ -125,11 +109,9 @@ pub fn page_passed(
         ≡ counts (λ _. true) start (end - start) answered.old }
 {
     let mut passed = before;
-    let mut second = start;
-    while second < end {
+    for second in start..end {
         let is_selected = is_set(bitmap, second - start);
         passed = second_passed(passed, second, is_selected, selected, answered);
-        second += 1;
     }
     passed
 }

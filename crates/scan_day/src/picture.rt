@@ -39,57 +39,47 @@ fn seconds_of(cell: usize, from: usize, end: usize) -> u32
     ensures { result ≡ seconds_of cell from end }
 {
     let start = cell * CELL;
-    let before = below(from, start);
-    let all = below(end, start);
-    if all <= before {
-        return 0;
-    }
-    (all - before) as u32
+    below(end, start).saturating_sub(below(from, start)) as u32
 }
 
 // How many seconds of a cell lie before a second.
 fn below(second: usize, start: usize) -> usize
     ensures { result ≡ min (second - start) 1200 }
 {
-    if second <= start {
-        return 0;
-    }
-    if CELL < second - start {
-        return CELL;
-    }
-    second - start
+    second.saturating_sub(start).min(CELL)
 }
 
 // A cell of so many seconds, of which some were answered and some of these selected.
+#[tactic(auto, unfolding(crate::specs::Picture::cell_of))]
 fn drawn_cell(seconds: u32, answered: u32, selected: u32) -> u8
     ensures { result ≡ cell_of seconds answered selected }
 {
     if seconds == 0 {
-        return b'-';
+        b'-'
+    } else if answered < seconds {
+        b'?'
+    } else if selected == 0 {
+        b' '
+    } else if seconds <= selected {
+        b'#'
+    } else {
+        by_thirds(seconds, selected)
     }
-    if answered < seconds {
-        return b'?';
-    }
-    if selected == 0 {
-        return b' ';
-    }
-    if seconds <= selected {
-        return b'#';
-    }
-    by_thirds(seconds, selected)
 }
 
+// Some of a cell's seconds, but not all.
+#[tactic(auto, unfolding(crate::specs::Picture::by_thirds))]
 fn by_thirds(seconds: u32, selected: u32) -> u8
     ensures { result ≡ by_thirds seconds selected }
 {
     let third = seconds / 3;
     if selected <= third {
-        return b'.';
+        b'.'
+    } else if selected <= 2 * third {
+        b':'
+    } else {
+        b'+'
     }
-    if selected <= 2 * third {
-        return b':';
-    }
-    b'+'
 }
 
 // The strip of a day's cells, the column's first day being 0.
@@ -105,12 +95,10 @@ pub fn strip(
         ≡ laid [] (strip_of day from end answered.now selected.now) }
 {
     let mut line = Line::new();
-    let mut c: usize = 0;
-    while c < DAY_CELLS {
+    for c in 0..DAY_CELLS {
         let cell = day * DAY_CELLS + c;
         let seconds = seconds_of(cell, from, end);
         line = line.words(&[drawn_cell(seconds, answered[cell], selected[cell])]);
-        c += 1;
     }
     line
 }

@@ -1,10 +1,10 @@
 -- The stretches of a page, and what they leave.
-use Rattle.std.specs.Prelude.{◌≡◌, Bool, drop, get_or}
+use Rattle.std.specs.Prelude.{◌≡◌, Bool, ◌++◌, get_or}
 use Rattle.std.proofs.Math.Path.{refl, ap}
-use Rattle.std.proofs.Common.{◌∙◌, arith, length-drop, drop-cons, take_at}
+use Rattle.std.proofs.Common.{arith, take_at}
 use Rattle.std.proofs.Math.Bool.{true, false, cond}
 use mathlib.Core.List.{List, [], ◌∷◌}
-use Prim.Native.Nat.{ℕ, suc, ◌+◌, ◌-◌, ◌*◌, ◌/◌, ◌≤◌, ◌<◌, min}
+use Prim.Native.Nat.{ℕ, suc, ◌+◌, ◌*◌, ◌/◌, ◌≤◌, ◌<◌, min}
 use Rattle.std.proofs.Math.Dec.{ltb}
 use Rattle.std.proofs.Math.ListN.{length, take}
 use borrow.Author.Tests.{ltb-false, le-ltb}
@@ -30,26 +30,22 @@ spans_of bitmap n = cond (ltb 16384 n) [] (cond (ltb (length bitmap) (ceil n 8))
 
 -- ---- a list pair by pair
 
-pub stretched-next : (start k : ℕ) (list : List ℕ) (g r whole : Going) → k + 1 < length list
-    → r ≡ stretching (start + get_or list k 0) (start + get_or list (k + 1) 0 + 1) g
-    → stretched start (drop k list) g ≡ whole → stretched start (drop (k + 2) list) r ≡ whole
+pub stretched-next : (start : ℕ) (pair rest more : List ℕ) (g r whole : Going) → rest ≡ pair ++ more → length pair ≡ 2
+    → r ≡ stretching (start + get_or pair 0 0) (start + get_or pair 1 0 + 1) g
+    → stretched start rest g ≡ whole → stretched start more r ≡ whole
 unfolding stretched
-stretched-next start k list g r whole h e so =
-    let one : k + 1 ≡ suc k = omega arith in
-    let two : k + 2 ≡ suc (suc k) = omega arith in
-    rw (e, two, one)
-    (rw (drop-cons list k 0 (omega arith), drop-cons list (suc k) 0 (omega arith)) at so)
+stretched-next start [] rest more g r whole is two e so = absurd (omega arith)
+stretched-next start (a ∷ []) rest more g r whole is two e so = absurd (omega arith)
+stretched-next start (a ∷ b ∷ []) rest more g r whole is two e so = rw e (rw is at so)
+stretched-next start (a ∷ b ∷ c ∷ l) rest more g r whole is two e so = absurd (omega arith)
 
 -- at most one number is left, and it is no pair
-pub stretched-end : (start k : ℕ) (list : List ℕ) (g whole : Going) → length list ≤ k + 1
-    → stretched start (drop k list) g ≡ whole → g ≡ whole
+pub stretched-end : (start : ℕ) (rest : List ℕ) (g whole : Going) → length rest < 2
+    → stretched start rest g ≡ whole → g ≡ whole
 unfolding stretched
-stretched-end start k list g whole h so = none (drop k list) (omega (arith, length-drop k list)) ∙ so
-  where
-    none : (l : List ℕ) → length l ≤ 1 → g ≡ stretched start l g
-    none [] few = refl
-    none (x ∷ []) few = refl
-    none (x ∷ y ∷ l) few = absurd (omega arith)
+stretched-end start [] g whole few so = so
+stretched-end start (a ∷ []) g whole few so = so
+stretched-end start (a ∷ b ∷ l) g whole few so = absurd (omega arith)
 
 -- ---- a page's list is what is written of 16,384 places
 
@@ -94,6 +90,6 @@ module _ (bitmap : List ℕ) (n : ℕ) (before after : List ℕ) (r : Answer) wh
 
   -- the part of the places that is passed on, k pairs from the first on
   pub page_part : (k : ℕ) → length before ≡ 16384 → outcome r after ≡ from_bitmap bitmap n before
-      → k ≡ min r.number 8192 → take (2 * k - 0) after ≡ spans_of bitmap n
+      → k ≡ min r.number 8192 → take (2 * k) after ≡ spans_of bitmap n
   page_part k room e is =
-      let all : 2 * k - 0 ≡ 2 * min r.number 8192 = omega arith in rw all (page-spans room e)
+      let all : 2 * k ≡ 2 * min r.number 8192 = omega arith in rw all (page-spans room e)

@@ -3,11 +3,10 @@ ghost use Rattle.std.specs.Prelude.{◌≡◌, true, false, cond, ◌+◌, ◌<�
 ghost use Rattle.scan_stretches.specs.Going.{fresh, stretching, losing};
 ghost use Rattle.scan_stretches.specs.Pages.{stretched, spans_of};
 
-use crate::going::Going;
+use crate::going::{Going, Stretch};
 use crate::told;
 use lines::streams::{Stream, Streams};
 use spans_list::from_bitmap::from_bitmap;
-use words::counts::min;
 
 #[derive(Clone, Copy)]
 pub struct Listing {
@@ -25,10 +24,9 @@ const PLACES: usize = 16384;
 pub fn begun(gap: u32, has_days: bool) -> Listing
     ensures { result.going ≡ fresh gap }
 {
-    let going = Going::new(gap as usize);
     Listing {
-        going: going,
-        has_days: has_days,
+        going: Going::new(gap as usize),
+        has_days,
         is_written: true,
     }
 }
@@ -37,33 +35,23 @@ fn is_line_written(
     streams: &Streams,
     has_days: bool,
     day: u32,
-    going: Going,
+    stretch: Stretch,
     may_end_later: bool,
 ) -> bool {
-    let line = told::stretch(
-        has_days,
-        day,
-        going.first,
-        going.behind,
-        going.may_begin_earlier,
-        may_end_later,
-    );
-    let next = line.part(streams, Stream::Output);
-    !next.lost
+    let line = told::stretch(has_days, day, stretch, may_end_later);
+    !line.part(streams, Stream::Output).lost
 }
 
 // The stretch that may go on has ended, if there is one: is every line written with it.
 pub fn ended(streams: &Streams, listing: Listing, day: u32, may_end_later: bool) -> bool
     ensures { listing.is_written ≡ false → result ≡ false }
 {
-    let going = listing.going;
-    if !listing.is_written {
-        return false;
+    match listing.going.current {
+        Some(stretch) if listing.is_written => {
+            is_line_written(streams, listing.has_days, day, stretch, may_end_later)
+        }
+        _ => listing.is_written,
     }
-    if !going.is_open {
-        return true;
-    }
-    is_line_written(streams, listing.has_days, day, going, may_end_later)
 }
 
 // The next stretch, from entry `first` to entry `last`, which are counted from second `start` on.
@@ -79,19 +67,16 @@ fn pair_passed(
     ensures { result.going ≡ stretching (start + first) (start + last + 1) listing.going }
 {
     let second = start + first as usize;
-    let going = listing.going;
-    let next = going.stretch(second, start + last as usize + 1);
-    if going.reaches(second) {
-        return Listing {
-            going: next,
-            has_days: listing.has_days,
-            is_written: listing.is_written,
-        };
-    }
+    let next = listing.going.stretch(second, start + last as usize + 1);
+    let is_written = if listing.going.reaches(second) {
+        listing.is_written
+    } else {
+        ended(streams, listing, day, false)
+    };
     Listing {
         going: next,
-        has_days: listing.has_days,
-        is_written: ended(streams, listing, day, false),
+        is_written,
+        ..listing
     }
 }
 
@@ -101,10 +86,8 @@ fn list_passed(streams: &Streams, before: Listing, day: u32, start: usize, list:
     ensures { result.going ≡ stretched start list.now before.going }
 {
     let mut listing = before;
-    let mut k: usize = 0;
-    while k + 1 < list.len() {
-        listing = pair_passed(streams, listing, day, start, list[k], list[k + 1]);
-        k += 2;
+    for pair in list.chunks_exact(2) {
+        listing = pair_passed(streams, listing, day, start, pair[0], pair[1]);
     }
     listing
 }
@@ -124,8 +107,8 @@ pub fn page_passed(
 {
     let mut places = [0u32; PLACES];
     let answer = from_bitmap(bitmap, n, &mut places);
-    let numbers = 2 * min(answer.number as usize, PLACES / 2);
-    list_passed(streams, before, day, start, &places[0..numbers])
+    let numbers = 2 * (answer.number as usize).min(PLACES / 2);
+    list_passed(streams, before, day, start, &places[..numbers])
 }
 
 // Seconds from one to before another that were not answered.
@@ -135,11 +118,9 @@ pub fn page_lost(streams: &Streams, before: Listing, day: u32, start: usize, end
     if end <= start {
         return before;
     }
-    let going = before.going;
-    let next = going.loses(end);
     Listing {
-        going: next,
-        has_days: before.has_days,
-        is_written: ended(streams, before, day, going.reaches(start)),
+        going: before.going.loses(end),
+        is_written: ended(streams, before, day, before.going.reaches(start)),
+        ..before
     }
 }

@@ -4,27 +4,19 @@ ghost use Rattle.lines.specs.Text.{held, laid};
 ghost use Rattle.scan_stretches.specs.Told.{first_day, time_of, behind_time, stretch_of};
 ghost use Rattle.scan_stretches.specs.Told.{gaps_closed, in_stretches};
 
+use crate::going::Stretch;
 use lines::Line;
 use scan_day::clocks::clock;
-
-// How many seconds there are from one to before another.
-pub fn seconds(from: usize, to: usize) -> usize
-    ensures { result ≡ to - from }
-{
-    if to <= from { 0 } else { to - from }
-}
 
 // The first day, which a time leaves out, where a column has several.
 fn first_day(line: Line, day: u64, has_days: bool) -> Line
     ensures { held result ≡ laid (held line) (first_day has_days day) }
 {
-    if !has_days {
-        return line.words(b"");
+    if has_days && day == 1 {
+        line.words(b" of day 1")
+    } else {
+        line
     }
-    if day == 1 {
-        return line.words(b" of day 1");
-    }
-    line.words(b"")
 }
 
 // A second by the clock, with its day where the column has several.
@@ -39,34 +31,29 @@ fn time(line: Line, day: u32, second: usize, has_days: bool) -> Line
 }
 
 // What stands behind a time: `?` where the stretch may go on there, since no page answered for that.
+#[tactic(auto, unfolding(crate::specs::Told::behind_time, lines::specs::Text::ascii))]
 fn behind_time(line: Line, may_go_on: bool) -> Line
     ensures { held result ≡ laid (held line) (behind_time may_go_on) }
 {
-    if may_go_on {
-        return line.words(b"? ");
-    }
-    line.words(b"  ")
+    line.words(if may_go_on { b"? " } else { b"  " })
 }
 
-// The line of a stretch from second `first` to before second `behind`; the column begins on a day, and may
-// have several.
-pub fn stretch(
-    has_days: bool,
-    day: u32,
-    first: usize,
-    behind: usize,
-    may_begin_earlier: bool,
-    may_end_later: bool,
-) -> Line
+// The line of a stretch; the column begins on a day, and may have several.
+pub fn stretch(has_days: bool, day: u32, stretch: Stretch, may_end_later: bool) -> Line
     ensures { held result
-        ≡ laid [] (stretch_of has_days day first behind may_begin_earlier may_end_later) }
+        ≡ laid [] (stretch_of has_days day stretch.first stretch.behind stretch.may_begin_earlier may_end_later) }
 {
+    let Stretch {
+        first,
+        behind,
+        may_begin_earlier,
+    } = stretch;
     let begun = behind_time(time(Line::new(), day, first, has_days), may_begin_earlier);
-    let ended = behind_time(
-        time(begun, day, seconds(1, behind), has_days),
-        may_end_later,
-    );
-    ended.number(seconds(first, behind) as u64).words(b" s\n")
+    let last = behind.saturating_sub(1);
+    let ended = behind_time(time(begun, day, last, has_days), may_end_later);
+    ended
+        .number(behind.saturating_sub(first) as u64)
+        .words(b" s\n")
 }
 
 // One word for one, and another for any other number.
@@ -74,10 +61,7 @@ fn one_or_more(line: Line, n: usize, one: &[u8], more: &[u8]) -> Line
     ensures { held result
         ≡ laid (held line) (cond (eqb n 1) one.now more.now) }
 {
-    if n == 1 {
-        return line.words(one);
-    }
-    line.words(more)
+    line.words(if n == 1 { one } else { more })
 }
 
 // Which gaps are closed, if any are.
@@ -85,7 +69,7 @@ fn gaps_closed(line: Line, gap: usize) -> Line
     ensures { held result ≡ laid (held line) (gaps_closed gap) }
 {
     if gap == 0 {
-        return line.words(b"");
+        return line;
     }
     let number = line.words(b", gaps of up to ").number(gap as u64);
     one_or_more(number, gap, b" second closed", b" seconds closed")

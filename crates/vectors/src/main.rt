@@ -5,6 +5,7 @@
 mod delta;
 mod dictionary;
 mod horizontal;
+mod rows;
 mod runs;
 
 use lines::Line;

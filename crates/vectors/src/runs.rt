@@ -1,8 +1,14 @@
 // Run streams: document 01's examples, and a header of more groups than 32 bits of entries.
+use crate::rows::{PLACES, all_told, reads, refuses};
 use crate::topic;
 use lines::streams::Streams;
 use unpack::runs::unpack;
-use vectors_rows::{asked, read, refused};
+use vectors_rows::asked;
+
+// Of the entries of all pages here.
+const WIDTH: u32 = 3;
+
+const MIXED: [u8; 6] = [0x06, 0x04, 0x03, 0x88, 0xC6, 0xFA];
 
 pub fn shown(streams: &Streams) -> bool {
     topic(streams, b"Run streams");
@@ -10,49 +16,37 @@ pub fn shown(streams: &Streams) -> bool {
 }
 
 fn accepted(streams: &Streams) -> bool {
-    let mixed = [0x06, 0x04, 0x03, 0x88, 0xC6, 0xFA];
-    reads(
-        streams,
-        &[0x94, 0x00, 0x05],
-        3,
-        &[5, 5, 5, 5, 5, 5, 5, 5, 5, 5],
-    ) & reads(streams, &mixed, 3, &[4, 4, 4, 0, 1, 2, 3, 4, 5, 6, 7])
-        & reads(streams, &mixed, 3, &[4, 4, 4, 0])
-        & reads(
-            streams,
-            &[0x03, 0x88, 0xC6, 0xFA],
-            3,
-            &[0, 1, 2, 3, 4, 5, 6, 7],
-        )
-        & reads(streams, &[], 3, &[])
+    let rows: [(&[u8], &[u32]); 5] = [
+        (&[0x94, 0x00, 0x05], &[5, 5, 5, 5, 5, 5, 5, 5, 5, 5]),
+        (&MIXED, &[4, 4, 4, 0, 1, 2, 3, 4, 5, 6, 7]),
+        (&MIXED, &[4, 4, 4, 0]),
+        (&[0x03, 0x88, 0xC6, 0xFA], &[0, 1, 2, 3, 4, 5, 6, 7]),
+        (&[], &[]),
+    ];
+    all_told(&rows, |(page, entries)| {
+        let line = asked(page, WIDTH, entries.len());
+        reads(streams, line, entries, &mut [0; PLACES], |n, places| {
+            unpack(page, WIDTH, n, places)
+        })
+    })
 }
 
+// Pages, how many entries are asked for, and the codes.
 fn refusals(streams: &Streams) -> bool {
-    let mixed = [0x06, 0x04, 0x03, 0x88, 0xC6, 0xFA];
-    refuses(streams, &mixed, 3, 2, 11)
-        & refuses(streams, &mixed, 3, 3, 6)
-        & refuses(streams, &mixed, 3, 12, 5)
-        & refuses(streams, &[0x06, 0x08], 3, 3, 8)
-        & refuses(streams, &[0x00, 0x05], 3, 3, 10)
-        & refuses(streams, &[0xFF, 0xFF, 0xFF, 0xFF, 0x10], 3, 3, 9)
-        & refuses(streams, &[0x83, 0x80, 0x80, 0x80, 0x04], 3, 8, 11)
-        & refuses(streams, &[0x00], 3, 0, 6)
-}
-
-fn reads(streams: &Streams, page: &[u8], width: u32, entries: &[u32]) -> bool {
-    let mut places = [0u32; 16];
-    let answer = unpack(page, width, entries.len(), &mut places);
-    read(
-        streams,
-        asked(page, width, entries.len()),
-        answer,
-        &places,
-        entries,
-    )
-}
-
-fn refuses(streams: &Streams, page: &[u8], width: u32, n: usize, code: u32) -> bool {
-    let mut places = [0u32; 16];
-    let answer = unpack(page, width, n, &mut places);
-    refused(streams, asked(page, width, n), answer, code)
+    let rows: [(&[u8], usize, u32); 8] = [
+        (&MIXED, 2, 11),
+        (&MIXED, 3, 6),
+        (&MIXED, 12, 5),
+        (&[0x06, 0x08], 3, 8),
+        (&[0x00, 0x05], 3, 10),
+        (&[0xFF, 0xFF, 0xFF, 0xFF, 0x10], 3, 9),
+        (&[0x83, 0x80, 0x80, 0x80, 0x04], 8, 11),
+        (&[0x00], 0, 6),
+    ];
+    all_told(&rows, |(page, n, code)| {
+        let line = asked(page, WIDTH, *n);
+        refuses(streams, line, *n, *code, &mut [0; PLACES], |n, places| {
+            unpack(page, WIDTH, n, places)
+        })
+    })
 }

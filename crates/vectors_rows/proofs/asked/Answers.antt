@@ -11,7 +11,7 @@ returns c =
     begun s.args.page.now s.args.width s.args.n
     c.new.ensures
     c.words.ensures
-    c.bytes.ensures
+    c.entries.ensures
     c.column-line.ensures
     c.words-2.ensures
     c.number-line.ensures

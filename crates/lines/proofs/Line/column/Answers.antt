@@ -1,7 +1,6 @@
 -- `lines::Line::column` meets its contract: the blanks that are missing.
 use borrow.Author.Rules.{rules}
 use mathlib.Core.Path.{◌∙◌}
-use Prim.Native.Nat.{◌-◌}
 use native.Mathlib.Omega.{arith}
 use Rattle.lines.specs.Text.{held}
 use Rattle.lines.specs.Laws.{padded}
@@ -11,6 +10,4 @@ pub returns : goal.returns
 unfolding held
 returns c =
     let line = c.args.self in
-    c.words.ensures
-    ∙ padded line.text line.used (search rules) c.args.at
-    (c.gap-k.result - 0) (omega arith)
+    c.words.ensures ∙ padded line.text line.used (search rules) c.args.at c.gap-k.result (omega arith)

@@ -1,34 +1,33 @@
--- `lines::Line::entries` meets its contract: each turn spells one more of the list.
-use native.Mathlib.Omega.{arith}
+-- `lines::Line::entries` meets its contract: each turn spells the first of what is left.
+use lib.ListN.{take}
 use borrow.Author.Rules.{rules}
-use borrow.Author.Tests.{ltb-true, ltb-false}
-use Rattle.lines.specs.Text.{held, decimal, spelled}
-use Rattle.lines.specs.Laws.{none, spelt-next, spelt_all, spelt_list}
+use Rattle.lines.specs.Text.{held, laid, spelled}
+use Rattle.lines.specs.Laws.{laid-none, none, spelled-next, spelled_all}
 use Rattle.lines.proofs.Line.entries.Goals as goal
 
-pub loop-i-init : goal.loop-i-init
-unfolding held spelled
-loop-i-init c = (
-  search rules,
-  search rules,
-  none c.args.self.text c.args.self.used
-      (search rules),
-)
+pub loop-x-init : goal.loop-x-init
+unfolding held
+loop-x-init g c = record { cut = none c.args.self.text c.args.self.used (search rules); whole = search rules }
 
-pub loop-i-preserved : goal.loop-i-preserved
-loop-i-preserved c =
-    spelt-next decimal c.args.n c.args.list.now (held c.args.self) c.loop-i.i (held c.loop-i.line)
-    c.loop-i.invariant (held c.entry-line.result)
-    (omega arith)
-    (omega (arith, ltb-true))
-    c.entry-line.ensures
+pub loop-x-preserved : goal.loop-x-preserved
+loop-x-preserved g c =
+    let f = g.T.Spelled.spelling in
+    let all = laid (held c.args.self) (spelled f (take c.args.n c.args.list.now)) in
+    let left = c.loop-x.x-iterator in
+    let then = c.next.new.self in
+    let e = c.in-Some.ensures.steps in
+    let x = c.in-Some.x.now in
+    record {
+      cut = rw c.spell-line.ensures (laid-none (held c.place.result) (f x));
+      whole = rw (c.spell-line.ensures, c.place.ensures)
+          (spelled-next f (held c.loop-x.line) all left.n then.n x left.iter.rest.now then.iter.rest.now
+          e.0 e.1 c.loop-x.invariant.whole);
+    }
 
-pub returns-else-i-list : goal.returns-else-i-list
-returns-else-i-list c =
-    spelt_list decimal c.args.n c.args.list.now (held c.args.self) c.loop-i.i (held c.loop-i.line)
-    c.loop-i.invariant (omega (arith, ltb-false))
-
-pub returns-after-loop-i : goal.returns-after-loop-i
-returns-after-loop-i c =
-    spelt_all decimal c.args.n c.args.list.now (held c.args.self) c.loop-i.i (held c.loop-i.line)
-    c.loop-i.invariant (omega arith)
+pub returns : goal.returns
+returns g c =
+    let f = g.T.Spelled.spelling in
+    let all = laid (held c.args.self) (spelled f (take c.args.n c.args.list.now)) in
+    let left = c.loop-x.x-iterator in
+    spelled_all f (held c.loop-x.line) all left.n left.iter.rest.now (λ h. (c.in-None.ensures.steps h).0)
+    c.loop-x.invariant.cut c.loop-x.invariant.whole

@@ -1,11 +1,14 @@
--- `lines::Line::entries` meets its contract: each turn spells one more of the list.
-use Prim.Native.Nat.{◌-◌}
-use Rattle.lines.specs.Text.{held, decimal}
-use Rattle.lines.specs.Laws.{Spelt}
+-- `lines::Line::entries` meets its contract: what is laid out, with what is left behind it, is the whole.
+use mathlib.Core.Path.{◌≡◌}
+use mathlib.Core.List.{[]}
+use lib.ListN.{take}
+use Rattle.lines.specs.Text.{held, laid, spelled}
 use Rattle.lines.proofs.Line.entries.Given as goal
 
-abbrev pub invariant-loop-i : goal.invariant-loop-i
-invariant-loop-i l = Spelt decimal l.n l.list (held l.initial.line) l.i (held l.line)
-
-abbrev pub decreases-loop-i : goal.decreases-loop-i
-decreases-loop-i l = l.n - l.i
+abbrev pub invariant-loop-x : goal.invariant-loop-x
+invariant-loop-x g l =
+    record {
+      cut : held l.line ≡ laid (held l.line) [];
+      whole : laid (held l.line) (spelled g.T.Spelled.spelling (take l.x-iterator.n l.x-iterator.iter.rest.now))
+          ≡ laid (held l.initial.line) (spelled g.T.Spelled.spelling (take l.n l.list));
+    }

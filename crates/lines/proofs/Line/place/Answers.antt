@@ -6,14 +6,14 @@ use Rattle.lines.specs.Text.{held}
 use Rattle.lines.specs.Laws.{full, one}
 use Rattle.lines.proofs.Line.place.Goals as goal
 
-pub returns-then-at-ge120 : goal.returns-then-at-ge120
+pub returns-then-self-lt120 : goal.returns-then-self-lt120
 unfolding held
-returns-then-at-ge120 c =
-    full c.args.self.text c.args.self.used (search rules)
-    (c.args.b ∷ []) (omega arith)
-
-pub returns : goal.returns
-unfolding held
-returns c =
+returns-then-self-lt120 c =
     one c.args.self.text c.args.self.used (search rules)
     c.args.b (omega arith)
+
+pub returns-else-self-lt120 : goal.returns-else-self-lt120
+unfolding held
+returns-else-self-lt120 c =
+    full c.args.self.text c.args.self.used (search rules)
+    (c.args.b ∷ []) (omega arith)

@@ -1,28 +1,17 @@
 -- `lines::Line::words` meets its contract: each turn lays out one byte more.
-use mathlib.Core.Path.{◌∙◌, ap}
+use mathlib.Core.Path.{◌∙◌}
 use native.Mathlib.Omega.{arith}
-use lib.Seq.{take_all}
 use borrow.Author.Rules.{rules}
-use Rattle.lines.specs.Text.{held, laid}
+use Rattle.lines.specs.Text.{held}
 use Rattle.lines.specs.Laws.{none, next}
 use Rattle.lines.proofs.Line.words.Goals as goal
 
-pub loop-i-init : goal.loop-i-init
+pub loop-b-init : goal.loop-b-init
 unfolding held
-loop-i-init c = (
-  search rules,
-  none c.args.self.text c.args.self.used (search rules),
-)
+loop-b-init c = none c.args.self.text c.args.self.used (search rules)
 
-pub loop-i-preserved : goal.loop-i-preserved
-loop-i-preserved c = (
-  omega arith,
-  c.place-line.ensures
-      ∙ next (held c.args.self) (held c.loop-i.line) c.args.words.now c.loop-i.i (omega arith)
-      c.loop-i.invariant.1,
-)
-
-pub returns : goal.returns
-returns c =
-    c.loop-i.invariant.1
-    ∙ ap (λ t. laid (held c.args.self) t) (take_all c.loop-i.i c.args.words.now (omega arith))
+pub loop-b-preserved : goal.loop-b-preserved
+loop-b-preserved c =
+    c.place-line.ensures
+    ∙ next (held c.args.self) (held c.loop-b.line) c.args.words.now c.loop-b.b-index (omega arith)
+    c.loop-b.invariant

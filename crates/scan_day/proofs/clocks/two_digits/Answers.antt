@@ -12,6 +12,6 @@ unfolding two_digits
 returns-then-n-lt10 c =
     rw (lt-ltb c.args.n 10 (omega arith)) (cc (laid-laid (held c.args.line) (48 ∷ []) (decimal c.args.n)))
 
-pub returns : goal.returns
+pub returns-else-n-lt10 : goal.returns-else-n-lt10
 unfolding two_digits
-returns c = rw (le-ltb c.args.n 10 (omega arith)) c.number-2.ensures
+returns-else-n-lt10 c = rw (le-ltb c.args.n 10 (omega arith)) c.number-else-n-lt10.ensures

@@ -7,10 +7,9 @@ use Rattle.scan_day.proofs.passing.page_passed.Given as goal
 
 abbrev pub invariant-loop-second : goal.invariant-loop-second
 invariant-loop-second l =
-    (l.start ≤ l.second) × (l.second - l.start ≤ l.end - l.start)
-    × (l.passed ≡ passed (chosen_by l.bitmap l.start) l.start (l.second - l.start) l.initial.passed)
-    × (l.selected ≡ counts (chosen_by l.bitmap l.start) l.start (l.second - l.start) l.initial.selected)
-    × (l.answered ≡ counts (λ _. true) l.start (l.second - l.start) l.initial.answered)
-
-abbrev pub decreases-loop-second : goal.decreases-loop-second
-decreases-loop-second l = l.end - l.second
+    record {
+      within : l.second - l.start ≤ l.end - l.start;
+      so_far : l.passed ≡ passed (chosen_by l.bitmap l.start) l.start (l.second - l.start) l.initial.passed;
+      selected : l.selected ≡ counts (chosen_by l.bitmap l.start) l.start (l.second - l.start) l.initial.selected;
+      answered : l.answered ≡ counts (λ _. true) l.start (l.second - l.start) l.initial.answered;
+    }

@@ -10,7 +10,8 @@ pub returns : goal.returns
 unfolding stretch_of ascii
 returns c =
     let a = c.args in
+    let t = a.stretch in
     cc
-    (laid_six [] (time_of a.has_days a.day a.first) (behind_time a.may_begin_earlier)
-    (time_of a.has_days a.day (a.behind - 1)) (behind_time a.may_end_later) (decimal (a.behind - a.first))
+    (laid_six [] (time_of a.has_days a.day t.first) (behind_time t.may_begin_earlier)
+    (time_of a.has_days a.day (t.behind - 1)) (behind_time a.may_end_later) (decimal (t.behind - t.first))
     (ascii " s\n"))

@@ -1,7 +1,7 @@
--- `lines::digit` meets its contract: a digit below ten, or a letter.
+-- `lines::spelled::digit` meets its contract: a digit below ten, or a letter.
 use borrow.Author.Tests.{lt-ltb, le-ltb}
 use Rattle.lines.specs.Text.{hex_digit}
-use Rattle.lines.proofs.digit.Goals as goal
+use Rattle.lines.proofs.spelled.digit.Goals as goal
 
 pub returns-then-d-lt10 : goal.returns-then-d-lt10
 unfolding hex_digit
