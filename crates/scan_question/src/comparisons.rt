@@ -5,7 +5,7 @@ ghost use Rattle.scan_question.specs.Comparisons.{Understood};
 use scan_says::system::System;
 use scan_says::{Sentence, tell};
 use scan_words::names::{BETWEEN, NO_OPERATOR, operator, operator_number};
-use scan_words::numbers::{Constant, read_constant};
+use scan_words::numbers::read_constant;
 use std::env::Env;
 use std::fs::{Files, OpenOptions};
 
@@ -53,18 +53,14 @@ fn numbered_at<R: Env>(system: &System<R>, at: usize) -> u32 {
     operator_number(&word[..n])
 }
 
-fn constant_at<R: Env>(system: &System<R>, at: usize) -> Constant {
+fn constant_at<R: Env>(system: &System<R>, at: usize) -> Option<i64> {
     let mut word = io::buffer();
     let n = system.arg(at, &mut word);
     read_constant(&word[..n])
 }
 
 fn is_constant<R: Env>(system: &System<R>, at: usize) -> bool {
-    let c = constant_at(system, at);
-    match c {
-        Constant::Is(_) => true,
-        Constant::Nothing => false,
-    }
+    constant_at(system, at).is_some()
 }
 
 // Can the file that a word names be opened.
@@ -80,7 +76,7 @@ fn with_one<R: Env>(system: &System<R>, op: u32, first: usize) -> Comparison
     requires { op < 6 }
     ensures { Understood 2 result }
 {
-    let Constant::Is(a) = constant_at(system, first) else {
+    let Some(a) = constant_at(system, first) else {
         return none(system, Sentence::NoConstant(first));
     };
     Comparison {
@@ -95,10 +91,10 @@ fn with_two<R: Env>(system: &System<R>, op: u32, first: usize, second: usize) ->
     requires { (6 ≤ op) × (op < 8) }
     ensures { Understood 3 result }
 {
-    let Constant::Is(a) = constant_at(system, first) else {
+    let Some(a) = constant_at(system, first) else {
         return none(system, Sentence::NoConstant(first));
     };
-    let Constant::Is(b) = constant_at(system, second) else {
+    let Some(b) = constant_at(system, second) else {
         return none(system, Sentence::NoConstant(second));
     };
     Comparison {

@@ -8,7 +8,7 @@ use scan_words::finding::find;
 use scan_words::names::{
     BITMAP, DAY, ENTRIES, JOIN, LAST, NO_OPTION, NUMBERS, SPANS, START, WIDTH, is_option, option,
 };
-use scan_words::numbers::{Count, read_count};
+use scan_words::numbers::read_count;
 use scan_words::times::read_time;
 use std::env::Env;
 
@@ -214,7 +214,7 @@ fn file<R: Env>(system: &System<R>, mut asked: Asked, at: usize, from: usize, by
 fn time<R: Env>(system: &System<R>, mut asked: Asked, at: usize, word: &[u8]) -> Asked
     ensures { result.words ≡ asked.words }
 {
-    let Count::Is(second) = read_time(word) else {
+    let Some(second) = read_time(word) else {
         return asked.spoiled(system, Sentence::Takes(at, START));
     };
     asked.start = second;
@@ -231,7 +231,7 @@ fn number<R: Env>(
 ) -> Asked
     ensures { result.words ≡ asked.words }
 {
-    let Count::Is(n) = read_count(word) else {
+    let Some(n) = read_count(word) else {
         return asked.spoiled(system, Sentence::Takes(at, option));
     };
     if !is_within(option, n) {
