@@ -105,7 +105,10 @@ fn is_read<R: Env + Files>(
     if same_file::is_word(system, &known, first) {
         return !tell(system, Sentence::OverPage(first));
     }
-    match pages.iter().find(|at| same_file::is_word(system, &known, **at)) {
+    match pages
+        .iter()
+        .find(|at| same_file::is_word(system, &known, **at))
+    {
         None => false,
         Some(at) => !tell(system, Sentence::OverPage(*at)),
     }

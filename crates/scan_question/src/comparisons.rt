@@ -77,10 +77,7 @@ fn with_two<R: Env>(
 }
 
 // The last two of some words, or their last three; or what is wrong with them.
-pub fn at_end<R: Env + Files>(
-    system: &System<R>,
-    words: &[usize],
-) -> Result<Comparison, Sentence>
+pub fn at_end<R: Env + Files>(system: &System<R>, words: &[usize]) -> Result<Comparison, Sentence>
     ensures { IfOk result (λ c. Understood (length words.now) c) }
 {
     let [before @ .., first, second] = words else {

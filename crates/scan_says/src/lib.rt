@@ -68,7 +68,11 @@ pub fn first_word<R: Env>(system: &System<R>) -> usize
 {
     let mut word = io::buffer();
     let n = system.arg(1, &mut word);
-    if &word[..n] == b"--status-fd=3".as_slice() { 2 } else { 1 }
+    if &word[..n] == b"--status-fd=3".as_slice() {
+        2
+    } else {
+        1
+    }
 }
 
 // A refusal or an error was said.
@@ -318,9 +322,7 @@ fn taken(setting: Setting) -> &'static [u8] {
         Setting::Start => b": --start takes a time from 00:00:00 to 23:59:59.",
         Setting::Day => b": --day takes a whole number from 1 to 99999.",
         Setting::Spans => b": --spans takes nothing behind it.",
-        Setting::Join => {
-            b": --join takes a whole number from 1 to 86400, the seconds of a day."
-        }
+        Setting::Join => { b": --join takes a whole number from 1 to 86400, the seconds of a day." }
     }
 }
 

@@ -1,6 +1,6 @@
 -- A number of digits kept within 64 bits, digit by digit, is the number that they spell, or none.
-use Rattle.std.specs.Prelude.{◌≡◌, Bool, true, false, cond, ◌&&◌, List, [], ◌∷◌, ℕ, ℤ, suc, ◌+◌, ◌-◌, ◌*◌, ◌^◌, ◌<◌, ◌≤◌, ltb, leb, length, drop, get_or, Some, None, refl}
-use Rattle.std.proofs.Common.{sym, ap, ◌∙◌, Option, option_and_then, arith, add-one, drop-cons, drop_of_length-le, length-drop, take, take_all}
+use Rattle.std.specs.Prelude.{◌≡◌, Bool, true, false, cond, ◌&&◌, List, [], ◌∷◌, ℕ, suc, ◌+◌, ◌-◌, ◌*◌, ◌^◌, ◌<◌, ◌≤◌, ltb, leb, length, drop, get_or, Some, None, refl}
+use Rattle.std.proofs.Common.{sym, Option, option_and_then, arith, add-one, drop-cons, drop_of_length-le, length-drop, take, take_all}
 use borrow.Author.Tests.{ltb-true, ltb-false, leb-true, lt-ltb, le-ltb, ne_eqb}
 use Rattle.scan_words.specs.Numbers.{is_digit, onward, spelled, counted, at_most, below, within, kept, further}
 

@@ -1,5 +1,5 @@
 -- `scan_words::times::read_time` meets its contract: eight bytes, the third and the sixth `:`, and three numbers.
-use Rattle.std.proofs.Common.{arith, rules}
+use Rattle.std.proofs.Common.{arith}
 use Rattle.std.proofs.lemmas.Bool.Decides.{nat_tests}
 use Rattle.scan_words.specs.Times.{time_of}
 use Rattle.scan_words.proofs.times.read_time.Goals as goal
