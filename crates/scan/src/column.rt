@@ -14,7 +14,6 @@ use scan_says::{Sentence, tell};
 use scan_stretches::pages::{Listing, begun};
 use std::env::Env;
 use std::fs::Files;
-use words::counts::min;
 
 // Bytes of the bitmaps of 1,024 full pages, more than can be named.
 const BITMAP: usize = 2097152;
@@ -39,13 +38,13 @@ pub fn answered<R: Env + Files>(
     let mut answered = [0u32; CELLS];
     let mut bitmap = room();
     let column = Column {
-        day: asked.day,
-        from: asked.start,
-        entries: entries,
+        day: asked.day.unwrap_or(1),
+        from: asked.start.unwrap_or(0),
+        entries,
     };
     let after = walked(
         system,
-        nothing_passed(asked, entries),
+        nothing_passed(asked, column),
         q,
         column,
         dictionary,
@@ -92,9 +91,9 @@ fn span(column: Column, pages: usize) -> Span {
     let end = from + column.entries as usize;
     Span {
         day: column.day,
-        from: from,
-        end: end,
-        shown: min(from + start_of(pages), end),
+        from,
+        end,
+        shown: (from + start_of(pages)).min(end),
     }
 }
 
@@ -108,13 +107,13 @@ struct SoFar {
     stretches: Listing,
 }
 
-fn nothing_passed(asked: Asked, entries: u32) -> SoFar {
-    let end = asked.start as usize + entries as usize;
+fn nothing_passed(asked: Asked, column: Column) -> SoFar {
+    let end = column.from as usize + column.entries as usize;
     SoFar {
         passed: Passed::new(),
         has_numbers: asked.numbers,
         has_stretches: asked.spans,
-        stretches: begun(asked.join, 86400 < end),
+        stretches: begun(asked.join.unwrap_or(0), 86400 < end),
     }
 }
 
@@ -131,12 +130,13 @@ fn walked<R: Env + Files>(
     answered: &mut [u32; CELLS],
 ) -> SoFar {
     let mut so_far = before;
-    let mut k: usize = 0;
-    while k < files.len() && !system.streams.is_closed() {
+    for (k, at) in files.iter().enumerate() {
+        if system.streams.is_closed() {
+            break;
+        }
         so_far = page_answered(
-            system, so_far, q, column, files[k], k, dictionary, bitmap, selected, answered,
+            system, so_far, q, column, *at, k, dictionary, bitmap, selected, answered,
         );
-        k += 1;
     }
     so_far
 }
@@ -157,7 +157,7 @@ fn page_answered<R: Env + Files>(
     let n = entries_of(k, column.entries as usize);
     let start = start_of(k);
     let first = column.from as usize + start;
-    let place = min(start / 8, bitmap.len());
+    let place = (start / 8).min(bitmap.len());
     if !answering::answered(system, q, dictionary, at, n, &mut bitmap[place..]) {
         return page_lost(system, so_far, column.day, first, first + n);
     }
@@ -189,13 +189,10 @@ fn page_lost<R: Env>(
     start: usize,
     end: usize,
 ) -> SoFar {
-    let passed = so_far.passed;
-    let listing = so_far.stretches;
     SoFar {
-        passed: passed.loses(),
-        has_numbers: so_far.has_numbers,
-        has_stretches: so_far.has_stretches,
-        stretches: stretches::page_lost(system, listing, day, start, end),
+        passed: so_far.passed.loses(),
+        stretches: stretches::page_lost(system, so_far.stretches, day, start, end),
+        ..so_far
     }
 }
 
@@ -213,16 +210,15 @@ fn page_listed<R: Env>(
     requires { (start ≤ 16777216) × (first < 1099511627776) × (n ≤ 16384) }
 {
     let has_numbers = so_far.has_numbers && listed(system, bitmap, start, start + n);
-    let before = so_far.stretches;
-    let after = if so_far.has_stretches {
-        stretches::page_listed(system, before, day, first, n, bitmap)
+    let stretches = if so_far.has_stretches {
+        stretches::page_listed(system, so_far.stretches, day, first, n, bitmap)
     } else {
-        before
+        so_far.stretches
     };
     SoFar {
-        passed: passed,
-        has_numbers: has_numbers,
-        has_stretches: so_far.has_stretches,
-        stretches: after,
+        passed,
+        has_numbers,
+        stretches,
+        ..so_far
     }
 }

@@ -1,6 +1,5 @@
 // The file that keeps the bitmap of all pages: opened when they are read, and never one of them.
 use crate::same_file;
-use check::same;
 use scan_day::seconds::{bitmap_bytes, entries_of, start_of};
 use scan_question::options::Asked;
 use scan_says::system::System;
@@ -9,28 +8,24 @@ use std::env::Env;
 use std::fs::{Files, OpenFile, OpenOptions};
 use std::io::Write;
 
-// Is the bitmap's name that of a file to be read, whose names stand at some places; that is said.
-pub fn is_named<R: Env>(system: &System<R>, asked: Asked, words: &[usize]) -> bool {
+// The place of a file to be read that has the bitmap's name, of those whose names stand at some places.
+pub fn named<R: Env>(system: &System<R>, asked: Asked, words: &[usize]) -> Option<usize> {
+    let name = asked.bitmap?;
     let mut word = io::buffer();
-    let n = system.arg(asked.bitmap, &mut word);
-    let from = asked.bitmap_from;
-    if asked.bitmap == 0 || n < from {
-        return false;
+    let n = system.arg(name.at, &mut word);
+    if n < name.from {
+        return None;
     }
-    let mut k: usize = 0;
-    while k < words.len() {
-        if is_word(system, &word[from..n], words[k]) {
-            return !tell(system, Sentence::OverPage(words[k]));
-        }
-        k += 1;
-    }
-    false
+    words
+        .iter()
+        .find(|at| is_word(system, &word[name.from..n], **at))
+        .copied()
 }
 
 fn is_word<R: Env>(system: &System<R>, name: &[u8], at: usize) -> bool {
     let mut word = io::buffer();
     let n = system.arg(at, &mut word);
-    same(name, &word[..n])
+    name == &word[..n]
 }
 
 // The bytes of the pages, where a file is asked for; a refused page's are 0. The first word names the
@@ -43,17 +38,19 @@ pub fn kept<R: Env + Files>(
     pages: &[usize],
     bitmap: &[u8],
 ) {
-    let mut word = io::buffer();
-    let n = system.arg(asked.bitmap, &mut word);
-    let from = asked.bitmap_from;
-    let size = size_of(entries, pages.len());
-    if asked.bitmap == 0 || n < from || bitmap.len() < size || system.streams.is_closed() {
-        return;
-    }
-    let Some(mut file) = opened(system, &word[from..n], first, pages) else {
+    let Some(name) = asked.bitmap else {
         return;
     };
-    if let Err(error) = file.write_all(&bitmap[0..size]) {
+    let mut word = io::buffer();
+    let n = system.arg(name.at, &mut word);
+    let size = size_of(entries, pages.len());
+    if n < name.from || bitmap.len() < size || system.streams.is_closed() {
+        return;
+    }
+    let Some(mut file) = opened(system, &word[name.from..n], first, pages) else {
+        return;
+    };
+    if let Err(error) = file.write_all(&bitmap[..size]) {
         system.streams.fails(error);
         failed(system, b"scan: the bitmap cannot be written", error);
     }
@@ -108,12 +105,11 @@ fn is_read<R: Env + Files>(
     if same_file::is_word(system, &known, first) {
         return !tell(system, Sentence::OverPage(first));
     }
-    let mut k: usize = 0;
-    while k < pages.len() {
-        if same_file::is_word(system, &known, pages[k]) {
-            return !tell(system, Sentence::OverPage(pages[k]));
-        }
-        k += 1;
+    match pages
+        .iter()
+        .find(|at| same_file::is_word(system, &known, **at))
+    {
+        None => false,
+        Some(at) => !tell(system, Sentence::OverPage(*at)),
     }
-    false
 }

@@ -19,12 +19,10 @@ pub fn listed<R: Env>(system: &System<R>, bitmap: &[u8], start: usize, end: usiz
         text: Line::new(),
         held: 0,
     };
-    let mut entry = start;
-    while entry < end {
+    for entry in start..end {
         if is_set(bitmap, entry - start) {
             numbers = with_one(&system.streams, numbers, entry);
         }
-        entry += 1;
     }
     let last = written(&system.streams, numbers);
     if last.lost {
@@ -43,7 +41,7 @@ fn with_one(streams: &Streams, numbers: Numbers, entry: usize) -> Numbers {
     let text = text.number(entry as u64);
     if numbers.held < 9 {
         return Numbers {
-            text: text,
+            text,
             held: numbers.held + 1,
         };
     }

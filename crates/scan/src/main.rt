@@ -12,7 +12,7 @@ mod telling;
 use lines::streams::Streams;
 use scan_says::system::System;
 use scan_says::{Sentence, first_word, help, tell, version};
-use scan_words::names::{NOTHING, VERSION, instead};
+use scan_words::names::{Instead, read_instead};
 use std::env::Env;
 use std::fs::Files;
 use std::process::ExitCode;
@@ -22,7 +22,7 @@ const UNREAD: u8 = 141;
 
 fn main(rt: HostRuntime) -> ExitCode {
     let system = System {
-        rt: rt,
+        rt,
         streams: Streams::new(rt.stdout(), rt.stderr()),
     };
     answer(&system);
@@ -38,33 +38,29 @@ fn answer<R: Env + Files>(system: &System<R>) {
         tell(system, Sentence::Usage);
         return;
     }
-    let plea = asked_instead(system, first);
-    match plea {
-        NOTHING => asking::asked(system),
-        VERSION => {
+    match asked_instead(system, first) {
+        None => asking::asked(system),
+        Some(Instead::Version) => {
             version(system);
         }
-        _ => {
+        Some(Instead::Help) => {
             help(system);
         }
     }
 }
 
 // The first word that asks for something else than a scan, of those before `--`.
-fn asked_instead<R: Env>(system: &System<R>, first: usize) -> u32 {
-    let all = system.arg_count();
-    let mut at = first;
-    while at < all {
+fn asked_instead<R: Env>(system: &System<R>, first: usize) -> Option<Instead> {
+    for at in first..system.arg_count() {
         let mut word = io::buffer();
         let n = system.arg(at, &mut word);
-        let plea = instead(&word[..n]);
-        if plea != NOTHING {
+        let plea = read_instead(&word[..n]);
+        if plea.is_some() {
             return plea;
         }
-        if n == 2 && word[0] == b'-' && word[1] == b'-' {
-            return NOTHING;
+        if &word[..n] == b"--".as_slice() {
+            return None;
         }
-        at += 1;
     }
-    NOTHING
+    None
 }

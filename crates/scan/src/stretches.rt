@@ -39,13 +39,7 @@ pub fn page_lost<R: Env>(
 pub fn ended<R: Env>(system: &System<R>, listing: Listing, span: Span) -> Listing {
     let lost = page_lost(system, listing, span.day, span.shown, span.end);
     let is_written = pages::ended(&system.streams, lost, span.day, false);
-    let going = lost.going;
-    let after = Listing {
-        going: going,
-        has_days: lost.has_days,
-        is_written: is_written,
-    };
-    told(system, lost.is_written, after)
+    told(system, lost.is_written, Listing { is_written, ..lost })
 }
 
 // Says that a line was not taken, the first time.

@@ -8,7 +8,6 @@ use scan_says::{Sentence, tell};
 use scan_stretches::going::Going;
 use scan_stretches::told::in_stretches;
 use std::env::Env;
-use words::counts::min;
 
 // Where a column stands: the number of its first day, and its seconds counted from that day's beginning. Pages
 // are named for those before `shown`.
@@ -59,24 +58,19 @@ pub fn drawn<R: Env>(
 
 // A strip for each day that a page is named for, and one if there is none; false where one cannot be written.
 fn strips(streams: &Streams, span: Span, answered: &[u32; CELLS], selected: &[u32; CELLS]) -> bool {
-    let days = min(days_of(span.shown), DAYS);
+    let days = days_of(span.shown).min(DAYS);
     let mut are_drawn = true;
-    let mut day: usize = 0;
-    while day < days {
+    for day in 0..days {
         let strip = picture::strip(day, span.from, span.end, answered, selected);
         let line = labelled(strip, span.day as u64 + day as u64, days).end(streams);
         are_drawn = are_drawn && !line.lost;
-        day += 1;
     }
     are_drawn
 }
 
 // How many days the seconds before one lie on.
 fn days_of(second: usize) -> usize {
-    if second == 0 {
-        return 1;
-    }
-    (second - 1) / 86400 + 1
+    second.saturating_sub(1) / 86400 + 1
 }
 
 // With its day, unless the first is the only one.

@@ -6,7 +6,6 @@ use crate::layouts::Question;
 use scan_question::files;
 use scan_says::system::System;
 use scan_says::{Sentence, tell};
-use scan_words::names::PLANES;
 use std::env::Env;
 use std::fs::Files;
 
@@ -25,12 +24,10 @@ pub fn answered<R: Env + Files>(
     ensures { Answered q dictionary.now n bitmap.old result bitmap.new }
 {
     let mut page = [0u8; BYTES];
-    let file = files::read(system, at, &mut page);
-    if !file.is_whole {
+    let Some(size) = files::read(system, at, &mut page) else {
         return false;
-    }
-    let size = file.bytes;
-    if q.layout == PLANES && size % 8 != 0 {
+    };
+    if q.layout.in_words() && size % 8 != 0 {
         return tell(system, Sentence::NoWords(at));
     }
     let answer = layouts::scan(q, dictionary, &page[..size], n, bitmap);

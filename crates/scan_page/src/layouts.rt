@@ -3,19 +3,34 @@ ghost use Rattle.std.specs.Prelude.{◌≡◌, ◌/◌, min, length};
 ghost use Rattle.rules.specs.Answer.Outcome.{outcome};
 ghost use Rattle.rules.specs.Bits.{put, tabulate};
 ghost use Rattle.rules.specs.Vertical as Vertical;
-ghost use Rattle.scan_page.specs.Layouts.{word_at, words_of, scan_of};
+ghost use Rattle.scan_page.specs.Layouts.{in_words, word_at, words_of, scan_of};
 
 use rules::Answer;
-use scan_words::names::{DELTA, HORIZONTAL, PLANES, RUNS};
-use words::counts::min;
 use words::loads::load_any;
+
+// How a page is laid out, and the width of its entries where the layout needs one.
+#[derive(Clone, Copy, PartialEq, Eq)]
+pub enum PageLayout {
+    Horizontal(u32),
+    Planes(u32),
+    Runs(u32),
+    Delta,
+    Dictionary,
+}
+
+impl PageLayout {
+    // Are its pages words of 8 bytes.
+    pub fn in_words(self) -> bool
+        ensures { result ≡ in_words self }
+    {
+        matches!(self, PageLayout::Planes(_))
+    }
+}
 
 // What every page of a column is asked: how it is laid out, and the comparison.
 #[derive(Clone, Copy)]
 pub struct Question {
-    pub layout: u32,
-    // the entries' width, where the layout needs one
-    pub width: u32,
+    pub layout: PageLayout,
     pub op: u32,
     pub a: i64,
     pub b: i64,
@@ -26,27 +41,32 @@ pub fn scan(q: Question, dictionary: &[u8], page: &[u8], n: usize, bitmap: &mut 
     ensures { outcome result bitmap.new
         ≡ scan_of q dictionary.now page.now n bitmap.old }
 {
-    let layout = q.layout;
-    match layout {
-        HORIZONTAL => horizontal_scan::scanning::scan(page, q.width, n, q.op, q.a, q.b, bitmap),
-        PLANES => scan_planes(q, page, n, bitmap),
-        RUNS => runs_scan::scanning::scan(page, q.width, n, q.op, q.a, q.b, bitmap),
-        DELTA => delta_scan::scanning::scan(page, n, q.op, q.a, q.b, bitmap),
-        _ => dictionary_scan::scanning::scan(dictionary, page, n, q.op, q.a, q.b, bitmap),
+    match q.layout {
+        PageLayout::Horizontal(width) => {
+            horizontal_scan::scanning::scan(page, width, n, q.op, q.a, q.b, bitmap)
+        }
+        PageLayout::Planes(width) => scan_planes(q, width, page, n, bitmap),
+        PageLayout::Runs(width) => {
+            runs_scan::scanning::scan(page, width, n, q.op, q.a, q.b, bitmap)
+        }
+        PageLayout::Delta => delta_scan::scanning::scan(page, n, q.op, q.a, q.b, bitmap),
+        PageLayout::Dictionary => {
+            dictionary_scan::scanning::scan(dictionary, page, n, q.op, q.a, q.b, bitmap)
+        }
     }
 }
 
 // As many words as a page's room has.
 const WORDS: usize = 20480;
 
-fn scan_planes(q: Question, page: &[u8], n: usize, bitmap: &mut [u8]) -> Answer
+fn scan_planes(q: Question, width: u32, page: &[u8], n: usize, bitmap: &mut [u8]) -> Answer
     ensures { outcome result bitmap.new
-        ≡ Vertical.scan (words_of page.now) q.width n q.op q.a q.b
+        ≡ Vertical.scan (words_of page.now) width n q.op q.a q.b
         bitmap.old }
 {
     let mut words = [0u64; WORDS];
     let k = words_of(page, &mut words);
-    vertical_scan::scanning::scan(&words[0..k], q.width, n, q.op, q.a, q.b, bitmap)
+    vertical_scan::scanning::scan(&words[0..k], width, n, q.op, q.a, q.b, bitmap)
 }
 
 // The page's words, low byte first, and how many there are.
@@ -55,11 +75,9 @@ fn words_of(page: &[u8], words: &mut [u64]) -> usize
     ensures words_after { words.new
         ≡ put words.old 0 (tabulate result (word_at page.now)) }
 {
-    let all = min(page.len() / 8, words.len());
-    let mut k: usize = 0;
-    while k < all {
+    let all = (page.len() / 8).min(words.len());
+    for k in 0..all {
         words[k] = load_any(page, 8 * k);
-        k += 1;
     }
     all
 }

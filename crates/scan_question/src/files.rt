@@ -1,4 +1,5 @@
 // Files named by arguments.
+ghost use Rattle.std.specs.Prelude.{IfSome};
 ghost use Rattle.io.specs.Counts.{IsPrefixLen};
 
 use scan_says::system::System;
@@ -7,34 +8,21 @@ use std::env::Env;
 use std::fs::{Files, OpenOptions};
 use std::io::Read;
 
-// What a file held: how many bytes of it were read, and whether that is all.
-#[derive(Drop)]
-pub struct Contents {
-    pub bytes: usize,
-    pub is_whole: bool,
-}
-
-// The bytes of a file, from the first lent place on; where they are not all of it, that is said.
-pub fn read<R: Env + Files>(system: &System<R>, at: usize, places: &mut [u8]) -> Contents
-    ensures { IsPrefixLen result.bytes places.new }
+// The bytes of a file, from the first lent place on, and how many they are; where they are not all of it,
+// that is said.
+pub fn read<R: Env + Files>(system: &System<R>, at: usize, places: &mut [u8]) -> Option<usize>
+    ensures { IfSome result (λ bytes. IsPrefixLen bytes places.new) }
 {
     let mut name = io::buffer();
     let n = system.arg(at, &mut name);
     match system.open(OpenOptions::new().read(true), &name[..n]) {
         Err(error) => {
             failed(system, &name[..n], error);
-            Contents {
-                bytes: 0,
-                is_whole: false,
-            }
+            None
         }
         Ok(mut file) => {
             let bytes = read_full(&mut file, places);
-            let is_whole = ended(system, &mut file, at, &name[..n]);
-            Contents {
-                bytes: bytes,
-                is_whole: is_whole,
-            }
+            ended(system, &mut file, at, &name[..n]).then_some(bytes)
         }
     }
 }

@@ -1,85 +1,64 @@
 // What is asked besides the layout and the comparison: the options, and the places of the words left.
-ghost use Rattle.std.specs.Prelude.{◌≡◌, ◌≤◌};
+ghost use Rattle.std.specs.Prelude.{◌≡◌, ◌≤◌, IfOk};
 ghost use Rattle.scan_question.specs.Options.{Left};
 
 use scan_says::system::System;
-use scan_says::{Sentence, first_word, tell};
+use scan_says::{Sentence, first_word};
 use scan_words::finding::find;
-use scan_words::names::{
-    BITMAP, DAY, ENTRIES, JOIN, LAST, NO_OPTION, NUMBERS, SPANS, START, WIDTH, is_option, option,
-};
-use scan_words::numbers::{Count, read_count};
+use scan_words::names::{Setting, is_option, read_setting};
+use scan_words::numbers::read_count;
 use scan_words::times::read_time;
 use std::env::Env;
 
 // At most so many words are taken, the program's name among them.
 pub const MOST: usize = 1024;
 
+// The word with a file's name, and the name's first byte in it.
+#[derive(Clone, Copy)]
+pub struct Name {
+    pub at: usize,
+    pub from: usize,
+}
+
 #[derive(Clone, Copy)]
 pub struct Asked {
-    pub width: u32,
-    pub has_width: bool,
-    pub entries: u32,
-    has_entries: bool,
-    pub last: u32,
-    pub has_last: bool,
+    pub width: Option<u32>,
+    pub entries: Option<u32>,
+    pub last: Option<u32>,
     // the column's first second: the time, and the day
-    pub start: u32,
-    has_start: bool,
-    pub day: u32,
-    has_day: bool,
-    // the word with the bitmap file's name, 0 for none, and the name's first byte in it
-    pub bitmap: usize,
-    pub bitmap_from: usize,
+    pub start: Option<u32>,
+    pub day: Option<u32>,
+    // the bitmap's file
+    pub bitmap: Option<Name>,
     pub numbers: bool,
     pub spans: bool,
-    // gaps of up to so many seconds are closed: 0 where none is
-    pub join: u32,
+    // gaps of up to so many seconds are closed
+    pub join: Option<u32>,
     // after `--` no word is an option
     is_ended: bool,
     // the option whose number or name comes next
-    waits: u32,
+    waits: Option<Setting>,
     pub words: usize,
-    pub wrong: bool,
 }
-
-// A day of seconds.
-const SECONDS: u32 = 86400;
 
 impl Asked {
     fn new() -> Asked
         ensures { result.words ≡ 0 }
     {
         Asked {
-            width: 0,
-            has_width: false,
-            entries: SECONDS,
-            has_entries: false,
-            last: 0,
-            has_last: false,
-            start: 0,
-            has_start: false,
-            day: 1,
-            has_day: false,
-            bitmap: 0,
-            bitmap_from: 0,
+            width: None,
+            entries: None,
+            last: None,
+            start: None,
+            day: None,
+            bitmap: None,
             numbers: false,
             spans: false,
-            join: 0,
+            join: None,
             is_ended: false,
-            waits: NO_OPTION,
+            waits: None,
             words: 0,
-            wrong: false,
         }
-    }
-
-    // Not as it should be, which is said.
-    fn spoiled<R: Env>(mut self, system: &System<R>, sentence: Sentence) -> Asked
-        ensures { result.words ≡ self.words }
-    {
-        tell(system, sentence);
-        self.wrong = true;
-        self
     }
 
     // A word that is no option and no option's.
@@ -98,197 +77,145 @@ impl Asked {
     }
 
     // Was an option given before.
-    fn has(self, option: u32) -> bool {
-        match option {
-            WIDTH => self.has_width,
-            ENTRIES => self.has_entries,
-            LAST => self.has_last,
-            START => self.has_start,
-            DAY => self.has_day,
-            BITMAP => self.bitmap != 0,
-            SPANS => self.spans,
-            JOIN => self.join != 0,
-            _ => self.numbers,
+    fn has(self, setting: Setting) -> bool {
+        match setting {
+            Setting::Width => self.width.is_some(),
+            Setting::Entries => self.entries.is_some(),
+            Setting::Last => self.last.is_some(),
+            Setting::Bitmap => self.bitmap.is_some(),
+            Setting::Numbers => self.numbers,
+            Setting::Start => self.start.is_some(),
+            Setting::Day => self.day.is_some(),
+            Setting::Spans => self.spans,
+            Setting::Join => self.join.is_some(),
         }
+    }
+
+    // A word that opens an option: alone, or with `=` and what the option takes behind it.
+    fn opened(mut self, at: usize, word: &[u8]) -> Result<Asked, Sentence>
+        ensures { IfOk result (λ asked. asked.words ≡ self.words) }
+    {
+        if word.len() == 2 {
+            self.is_ended = true;
+            return Ok(self);
+        }
+        let end = find(word, 0, word.len(), b'=');
+        let setting = read_setting(&word[..end]).ok_or(Sentence::UnknownOption(at))?;
+        if self.has(setting) {
+            return Err(Sentence::Twice(at));
+        }
+        if end < word.len() {
+            return self.given(setting, at, end + 1, &word[end + 1..]);
+        }
+        match setting {
+            Setting::Numbers => self.numbers = true,
+            Setting::Spans => self.spans = true,
+            _ => self.waits = Some(setting),
+        }
+        Ok(self)
+    }
+
+    // What an option was given: word `at` from byte `from` on.
+    fn given(
+        mut self,
+        setting: Setting,
+        at: usize,
+        from: usize,
+        word: &[u8],
+    ) -> Result<Asked, Sentence>
+        ensures { IfOk result (λ asked. asked.words ≡ self.words) }
+    {
+        match setting {
+            Setting::Width => self.width = Some(number(setting, at, word, 0, 32)?),
+            Setting::Entries => self.entries = Some(number(setting, at, word, 0, 16777216)?),
+            Setting::Last => self.last = Some(number(setting, at, word, 0, 16384)?),
+            Setting::Join => self.join = Some(number(setting, at, word, 1, 86400)?),
+            Setting::Day => self.day = Some(number(setting, at, word, 1, 99999)?),
+            Setting::Start => {
+                let second = read_time(word).ok_or(Sentence::Takes(Some(at), setting))?;
+                self.start = Some(second);
+            }
+            Setting::Bitmap => {
+                if word.is_empty() {
+                    return Err(Sentence::Takes(None, setting));
+                }
+                self.bitmap = Some(Name { at, from });
+            }
+            Setting::Numbers | Setting::Spans => return Err(Sentence::Takes(Some(at), setting)),
+        }
+        Ok(self)
+    }
+
+    // No option may be left without what it takes, the entries are told once, and one list is written.
+    fn finished(self) -> Result<Asked, Sentence>
+        ensures { IfOk result (λ asked. asked ≡ self) }
+    {
+        if let Some(setting) = self.waits {
+            return Err(Sentence::Takes(None, setting));
+        }
+        if self.entries.is_some() && self.last.is_some() {
+            return Err(Sentence::TwoCounts);
+        }
+        if self.numbers && self.spans {
+            return Err(Sentence::TwoLists);
+        }
+        if self.join.is_some() && !self.spans {
+            return Err(Sentence::LoneJoin);
+        }
+        Ok(self)
     }
 }
 
-// All words, one after the other.
-pub fn sorted_out<R: Env>(system: &System<R>, words: &mut [usize]) -> Asked
-    ensures { Left result.words words.new }
+// The number that an option was given, from the least to the most that its sentence says.
+fn number(
+    setting: Setting,
+    at: usize,
+    word: &[u8],
+    least: u32,
+    most: u32,
+) -> Result<u32, Sentence> {
+    match read_count(word) {
+        Some(n) if least <= n && n <= most => Ok(n),
+        _ => Err(Sentence::Takes(Some(at), setting)),
+    }
+}
+
+// All words, one after the other; or what is first wrong with them.
+pub fn sorted_out<R: Env>(system: &System<R>, words: &mut [usize]) -> Result<Asked, Sentence>
+    ensures { IfOk result (λ asked. Left asked.words words.new) }
 {
     let all = system.arg_count();
+    let first = first_word(system);
+    if MOST - 1 + first < all {
+        return Err(Sentence::ManyWords);
+    }
     let mut asked = Asked::new();
-    let mut at = first_word(system);
-    if MOST - 1 + at < all {
-        return asked.spoiled(system, Sentence::ManyWords);
+    for at in first..all {
+        asked = argument(system, asked, at, words)?;
     }
-    while at < all {
-        asked = argument(system, asked, at, words);
-        at += 1;
-    }
-    finished(system, asked)
+    asked.finished()
 }
 
-fn argument<R: Env>(system: &System<R>, mut asked: Asked, at: usize, words: &mut [usize]) -> Asked
-    requires le_at { 1 ≤ at }
-    requires left { Left asked.words words.old }
-    ensures { Left result.words words.new }
-{
-    if asked.wrong {
-        return asked;
-    }
-    let mut word = io::buffer();
-    let Ok(n) = system.rt.arg(at, &mut word) else {
-        return asked.spoiled(system, Sentence::LongWord(at));
-    };
-    let option = asked.waits;
-    if option != NO_OPTION {
-        asked.waits = NO_OPTION;
-        return value(system, asked, option, at, 0, &word[..n]);
-    }
-    if asked.is_ended || !is_option(&word[..n]) {
-        return asked.word(at, words);
-    }
-    opened(system, asked, at, &word[..n])
-}
-
-// A word that opens an option: alone, or with `=` and what the option takes behind it.
-fn opened<R: Env>(system: &System<R>, mut asked: Asked, at: usize, word: &[u8]) -> Asked
-    ensures { result.words ≡ asked.words }
-{
-    if word.len() == 2 {
-        asked.is_ended = true;
-        return asked;
-    }
-    let end = find(word, 0, word.len(), b'=');
-    let named = option(&word[0..end]);
-    if named == NO_OPTION {
-        return asked.spoiled(system, Sentence::UnknownOption(at));
-    }
-    if asked.has(named) {
-        return asked.spoiled(system, Sentence::Twice(at));
-    }
-    if end < word.len() {
-        return value(system, asked, named, at, end + 1, &word[end + 1..]);
-    }
-    match named {
-        NUMBERS => asked.numbers = true,
-        SPANS => asked.spans = true,
-        _ => asked.waits = named,
-    }
-    asked
-}
-
-// What an option was given: word `at` from byte `from` on.
-fn value<R: Env>(
-    system: &System<R>,
-    asked: Asked,
-    option: u32,
-    at: usize,
-    from: usize,
-    word: &[u8],
-) -> Asked
-    ensures { result.words ≡ asked.words }
-{
-    match option {
-        BITMAP => file(system, asked, at, from, word.len()),
-        NUMBERS | SPANS => asked.spoiled(system, Sentence::Takes(at, option)),
-        START => time(system, asked, at, word),
-        _ => number(system, asked, option, at, word),
-    }
-}
-
-// The bitmap file's name, which has so many bytes.
-fn file<R: Env>(system: &System<R>, mut asked: Asked, at: usize, from: usize, bytes: usize) -> Asked
-    ensures { result.words ≡ asked.words }
-{
-    if bytes == 0 {
-        return asked.spoiled(system, Sentence::Takes(0, BITMAP));
-    }
-    asked.bitmap = at;
-    asked.bitmap_from = from;
-    asked
-}
-
-fn time<R: Env>(system: &System<R>, mut asked: Asked, at: usize, word: &[u8]) -> Asked
-    ensures { result.words ≡ asked.words }
-{
-    let Count::Is(second) = read_time(word) else {
-        return asked.spoiled(system, Sentence::Takes(at, START));
-    };
-    asked.start = second;
-    asked.has_start = true;
-    asked
-}
-
-fn number<R: Env>(
+fn argument<R: Env>(
     system: &System<R>,
     mut asked: Asked,
-    option: u32,
     at: usize,
-    word: &[u8],
-) -> Asked
-    ensures { result.words ≡ asked.words }
+    words: &mut [usize],
+) -> Result<Asked, Sentence>
+    requires le_at { 1 ≤ at }
+    requires left { Left asked.words words.old }
+    ensures { IfOk result (λ after. Left after.words words.new) }
 {
-    let Count::Is(n) = read_count(word) else {
-        return asked.spoiled(system, Sentence::Takes(at, option));
+    let mut word = io::buffer();
+    let Ok(n) = system.rt.arg(at, &mut word) else {
+        return Err(Sentence::LongWord(at));
     };
-    if !is_within(option, n) {
-        return asked.spoiled(system, Sentence::Takes(at, option));
+    if let Some(setting) = asked.waits {
+        asked.waits = None;
+        return asked.given(setting, at, 0, &word[..n]);
     }
-    match option {
-        WIDTH => {
-            asked.width = n;
-            asked.has_width = true;
-        }
-        ENTRIES => {
-            asked.entries = n;
-            asked.has_entries = true;
-        }
-        LAST => {
-            asked.last = n;
-            asked.has_last = true;
-        }
-        JOIN => asked.join = n,
-        _ => {
-            asked.day = n;
-            asked.has_day = true;
-        }
+    if asked.is_ended || !is_option(&word[..n]) {
+        return Ok(asked.word(at, words));
     }
-    asked
-}
-
-// Is a number one that an option takes, as its sentence says.
-fn is_within(option: u32, n: u32) -> bool {
-    match option {
-        WIDTH => n <= 32,
-        ENTRIES => n <= 16777216,
-        LAST => n <= 16384,
-        JOIN => 1 <= n && n <= 86400,
-        _ => 1 <= n && n <= 99999,
-    }
-}
-
-// No option may be left without what it takes, the entries are told once, and one list is written.
-fn finished<R: Env>(system: &System<R>, asked: Asked) -> Asked
-    ensures { result.words ≡ asked.words }
-{
-    if asked.wrong {
-        return asked;
-    }
-    let option = asked.waits;
-    if option != NO_OPTION {
-        return asked.spoiled(system, Sentence::Takes(0, option));
-    }
-    if asked.has_entries && asked.has_last {
-        return asked.spoiled(system, Sentence::TwoCounts);
-    }
-    if asked.numbers && asked.spans {
-        return asked.spoiled(system, Sentence::TwoLists);
-    }
-    if asked.join != 0 && !asked.spans {
-        return asked.spoiled(system, Sentence::LoneJoin);
-    }
-    asked
+    asked.opened(at, &word[..n])
 }

@@ -7,13 +7,12 @@ pub mod system;
 
 ghost use Rattle.std.specs.Prelude.{◌≡◌, false, ◌≤◌};
 
-use check::same;
 use lines::Line;
 use lines::streams::{Stream, Streams};
 use reasons::fail;
 use scan_day::clocks::clock;
 use scan_day::seconds;
-use scan_words::names::{BITMAP, DAY, ENTRIES, JOIN, LAST, NUMBERS, SPANS, WIDTH};
+use scan_words::names::Setting;
 use std::env::Env;
 use std::io::Error;
 use system::System;
@@ -29,8 +28,8 @@ pub enum Sentence {
     WrongLayout(usize),
     UnknownOption(usize),
     Twice(usize),
-    // the place of what is not taken, 0 where there is nothing, and the option
-    Takes(usize, u32),
+    // the place of what is not taken, if there is anything, and the option
+    Takes(Option<usize>, Setting),
     TwoCounts,
     TwoLists,
     LoneJoin,
@@ -69,10 +68,11 @@ pub fn first_word<R: Env>(system: &System<R>) -> usize
 {
     let mut word = io::buffer();
     let n = system.arg(1, &mut word);
-    if same(&word[..n], b"--status-fd=3") {
-        return 2;
+    if &word[..n] == b"--status-fd=3".as_slice() {
+        2
+    } else {
+        1
     }
-    1
 }
 
 // A refusal or an error was said.
@@ -160,7 +160,7 @@ fn tell_of_options<R: Env>(system: &System<R>, sentence: Sentence) {
             at,
             b": this option was given before: leave one of them out.",
         ),
-        Sentence::Takes(at, option) => takes(system, at, option),
+        Sentence::Takes(at, setting) => takes(system, at, setting),
         Sentence::TwoCounts => say(
             streams,
             b"scan: --entries and --last both say how many entries there are: leave one of them out.",
@@ -297,35 +297,32 @@ fn long_word<R: Env>(system: &System<R>, at: usize) {
 }
 
 // What an option takes, and before it what it was given.
-fn takes<R: Env>(system: &System<R>, at: usize, option: u32) {
+fn takes<R: Env>(system: &System<R>, at: Option<usize>, setting: Setting) {
     let streams = &system.streams;
-    if at == 0 {
-        streams.write_all(Stream::Errors, b"scan");
-    } else {
-        typed(system, at);
+    match at {
+        None => {
+            streams.write_all(Stream::Errors, b"scan");
+        }
+        Some(at) => typed(system, at),
     }
-    match option {
-        WIDTH => say(streams, b": --width takes a whole number from 0 to 32."),
-        ENTRIES => say(
-            streams,
-            b": --entries takes a whole number from 0 to 16777216, which is 1024 full pages.",
-        ),
-        LAST => say(
-            streams,
-            b": --last takes a whole number from 0 to 16384, the entries of a full page.",
-        ),
-        BITMAP => say(streams, b": --bitmap takes the name of a file."),
-        NUMBERS => say(streams, b": --numbers takes nothing behind it."),
-        SPANS => say(streams, b": --spans takes nothing behind it."),
-        JOIN => say(
-            streams,
-            b": --join takes a whole number from 1 to 86400, the seconds of a day.",
-        ),
-        DAY => say(streams, b": --day takes a whole number from 1 to 99999."),
-        _ => say(
-            streams,
-            b": --start takes a time from 00:00:00 to 23:59:59.",
-        ),
+    say(streams, taken(setting));
+}
+
+fn taken(setting: Setting) -> &'static [u8] {
+    match setting {
+        Setting::Width => b": --width takes a whole number from 0 to 32.",
+        Setting::Entries => {
+            b": --entries takes a whole number from 0 to 16777216, which is 1024 full pages."
+        }
+        Setting::Last => {
+            b": --last takes a whole number from 0 to 16384, the entries of a full page."
+        }
+        Setting::Bitmap => b": --bitmap takes the name of a file.",
+        Setting::Numbers => b": --numbers takes nothing behind it.",
+        Setting::Start => b": --start takes a time from 00:00:00 to 23:59:59.",
+        Setting::Day => b": --day takes a whole number from 1 to 99999.",
+        Setting::Spans => b": --spans takes nothing behind it.",
+        Setting::Join => { b": --join takes a whole number from 1 to 86400, the seconds of a day." }
     }
 }
 
@@ -351,7 +348,7 @@ fn refused<R: Env>(system: &System<R>, at: usize, code: u32) {
     let n = io::decimal(code as u64, &mut digits);
     streams.write_all(Stream::Errors, &digits[..n]);
     streams.write_all(Stream::Errors, b": ");
-    meaning(streams, code);
+    say(streams, meaning(code));
 }
 
 fn many_pages(streams: &Streams, entries: usize, pages: usize) {
@@ -392,45 +389,26 @@ fn missing(streams: &Streams, day: u32, second: usize) {
 }
 
 // What a code means: of the arguments, of a page or its runs, of a layout's own.
-fn meaning(streams: &Streams, code: u32) {
+fn meaning(code: u32) -> &'static [u8] {
     match code {
-        1 => say(streams, b"width above 32"),
-        2 => say(streams, b"more than 16,384 entries"),
-        3 => say(streams, b"operator above 7"),
-        4 => say(streams, b"output too short"),
-        5 => say(streams, b"the page ends too early"),
-        6 => say(streams, b"bytes of the page are left over"),
-        _ => page_meaning(streams, code),
-    }
-}
-
-fn page_meaning(streams: &Streams, code: u32) {
-    match code {
-        7 => say(streams, b"unused bits not 0"),
-        8 => say(streams, b"run value not below 2^width"),
-        9 => say(streams, b"variable-length number beyond 32 bits"),
-        10 => say(streams, b"run of length 0"),
-        11 => say(streams, b"run goes too far past the page's entries"),
-        _ => layout_meaning(streams, code),
-    }
-}
-
-fn layout_meaning(streams: &Streams, code: u32) {
-    match code {
-        12 => say(
-            streams,
-            b"delta shape: block size or miniblock count not as allowed",
-        ),
-        13 => say(
-            streams,
-            b"delta count is not the entries asked of this page",
-        ),
-        14 => say(
-            streams,
-            b"dictionary: length no multiple of 4, over 65,536 bytes, or values not strictly ascending",
-        ),
-        15 => say(streams, b"index not below the dictionary's count"),
-        _ => say(streams, b"a code without a meaning here"),
+        1 => b"width above 32",
+        2 => b"more than 16,384 entries",
+        3 => b"operator above 7",
+        4 => b"output too short",
+        5 => b"the page ends too early",
+        6 => b"bytes of the page are left over",
+        7 => b"unused bits not 0",
+        8 => b"run value not below 2^width",
+        9 => b"variable-length number beyond 32 bits",
+        10 => b"run of length 0",
+        11 => b"run goes too far past the page's entries",
+        12 => b"delta shape: block size or miniblock count not as allowed",
+        13 => b"delta count is not the entries asked of this page",
+        14 => {
+            b"dictionary: length no multiple of 4, over 65,536 bytes, or values not strictly ascending"
+        }
+        15 => b"index not below the dictionary's count",
+        _ => b"a code without a meaning here",
     }
 }
 

@@ -1,110 +1,95 @@
--- A number of digits kept within 64 bits, digit by digit, is the number that they spell, or stands for none.
-use Rattle.std.specs.Prelude.{◌≡◌, Bool, true, false, cond, ◌&&◌, List, [], ◌∷◌, ℕ, suc, ◌+◌, ◌-◌, ◌*◌, ◌^◌, ◌<◌, ◌≤◌, ltb, leb, length, drop, get_or}
-use Rattle.std.proofs.Math.Path.{refl}
-use Rattle.std.proofs.Common.{sym, ap, ◌∙◌, add-one, arith, drop_of_length-le, drop-cons}
-use Rattle.std.proofs.Math.Option.{Option, none, some}
+-- A number of digits kept within 64 bits, digit by digit, is the number that they spell, or none.
+use Rattle.std.specs.Prelude.{◌≡◌, Bool, true, false, cond, ◌&&◌, List, [], ◌∷◌, ℕ, suc, ◌+◌, ◌-◌, ◌*◌, ◌^◌, ◌<◌, ◌≤◌, ltb, leb, length, drop, get_or, Some, None, refl}
+use Rattle.std.proofs.Common.{sym, Option, option_and_then, arith, add-one, drop-cons, drop_of_length-le, length-drop, take, take_all}
 use borrow.Author.Tests.{ltb-true, ltb-false, leb-true, lt-ltb, le-ltb, ne_eqb}
-use Rattle.scan_words.specs.declared.numbers.Constant.{Constant}
-use Rattle.scan_words.specs.declared.numbers.Count.TheVariants.{Is, Nothing}
-use Rattle.scan_words.specs.Numbers.{is_digit, onward, spelled, counted, at_most, below, fitting, capped, further}
+use Rattle.scan_words.specs.Numbers.{is_digit, onward, spelled, counted, at_most, below, within, kept, further}
 
 -- from 2^63 + 2 on digits spell no number that is kept
-high : (m : ℕ) (word : List ℕ) → 9223372036854775810 ≤ m → capped (onward m word) ≡ 18446744073709551615
+high : (m : ℕ) (word : List ℕ) → 9223372036854775810 ≤ m → option_and_then within (onward m word) ≡ None
 unfolding onward
-high m [] h = rw (le-ltb m 9223372036854775810 h)
+high m [] h = rw (le-ltb m 9223372036854775810 h) refl
 high m (b ∷ word) h = by-digit (is_digit b) (high (m * 10 + (b - 48)) word (omega arith))
   where
-    by-digit : (t : Bool) → capped (onward (m * 10 + (b - 48)) word) ≡ 18446744073709551615
-        → capped (cond t (onward (m * 10 + (b - 48)) word) none) ≡ 18446744073709551615
+    by-digit : (t : Bool) → option_and_then within (onward (m * 10 + (b - 48)) word) ≡ None
+        → option_and_then within (cond t (onward (m * 10 + (b - 48)) word) None) ≡ None
     by-digit true e = e
     by-digit false e = refl
 
-step : (m b : ℕ) (word : List ℕ) → capped (onward m (b ∷ word)) ≡ capped (onward (further m b) word)
+-- one digit more, and the digits behind it
+step : (m b : ℕ) (word : List ℕ)
+    → option_and_then within (onward m (b ∷ word))
+    ≡ option_and_then (λ n. option_and_then within (onward n word)) (further m b)
 unfolding onward further
 step m b word = go (ltb 922337203685477580 m) (is_digit b) refl
   where
     go : (full digit : Bool) → ltb 922337203685477580 m ≡ full
-        → capped (cond digit (onward (m * 10 + (b - 48)) word) none)
-        ≡ capped
-        (onward (cond full 18446744073709551615 (cond digit (m * 10 + (b - 48)) 18446744073709551615)) word)
-    go true true e =
-        high (m * 10 + (b - 48)) word (omega (arith, ltb-true 922337203685477580 m e))
-        ∙ sym (high 18446744073709551615 word (omega arith))
-    go true false e = sym (high 18446744073709551615 word (omega arith))
+        → option_and_then within (cond digit (onward (m * 10 + (b - 48)) word) None)
+        ≡ option_and_then (λ n. option_and_then within (onward n word))
+        (cond full None (cond digit (Some (m * 10 + (b - 48))) None))
+    go true true e = high (m * 10 + (b - 48)) word (omega (arith, ltb-true 922337203685477580 m e))
+    go true false e = refl
     go false true e = refl
-    go false false e = sym (high 18446744073709551615 word (omega arith))
+    go false false e = refl
 
--- what is kept is a number that is kept, or stands for none
-pub kept : (m b : ℕ) → capped (some (further m b)) ≡ further m b
+-- the same at place i of a word
+pub next : (word : List ℕ) (m i : ℕ) (o : Option ℕ) → i < length word → o ≡ further m (get_or word i 0)
+    → option_and_then within (onward m (drop i word))
+    ≡ option_and_then (λ n. option_and_then within (onward n (drop (i + 1) word))) o
+next word m i o h e =
+    rw (e, add-one i, drop-cons word i 0 h) (step m (get_or word i 0) (drop (suc i) word))
+
+pub spelled-none : (word : List ℕ) → length word ≡ 0 → spelled word ≡ None
+unfolding spelled
+spelled-none [] e = refl
+spelled-none (b ∷ word) e = absurd (omega arith)
+
+-- what stands behind a word's first byte, as a slice of it
+pub behind : (word : List ℕ) → take (length word - 1) (drop 1 word) ≡ drop 1 word
+behind word = take_all (length word - 1) (drop 1 word) (omega (arith, length-drop 1 word))
+
+pub begun : (word : List ℕ) → 0 < length word → option_and_then within (onward 0 word) ≡ kept word
+unfolding spelled
+begun [] h = absurd (omega arith)
+begun (b ∷ word) h = refl
+
+pub ended : (word whole : List ℕ) (m i : ℕ) → length word ≤ i → m < 9223372036854775810
+    → option_and_then within (onward m (drop i word)) ≡ kept whole → Some m ≡ kept whole
+unfolding onward
+ended word whole m i h low e =
+    rw (drop_of_length-le word {i = i} h, lt-ltb m 9223372036854775810 low) at e
+
+-- what is kept is a number that is kept
+pub further_low : (m b n : ℕ) → further m b ≡ Some n → n < 9223372036854775810
 unfolding further
-kept m b = go (ltb 922337203685477580 m) (leb 48 b) (leb b 57) refl refl
+further_low m b n = go (ltb 922337203685477580 m) (leb 48 b) (leb b 57) refl refl
   where
     go : (full from to : Bool) → ltb 922337203685477580 m ≡ full → leb b 57 ≡ to
-        → capped (some (cond full 18446744073709551615 (cond (from && to) (m * 10 + (b - 48)) 18446744073709551615)))
-        ≡ cond full 18446744073709551615 (cond (from && to) (m * 10 + (b - 48)) 18446744073709551615)
-    go true from to e f = refl
-    go false false to e f = refl
-    go false true false e f = refl
-    go false true true e f =
-        rw
-        (lt-ltb (m * 10 + (b - 48)) 9223372036854775810
-        (omega (arith, ltb-false 922337203685477580 m e, leb-true b 57 f)))
+        → cond full None (cond (from && to) (Some (m * 10 + (b - 48))) None) ≡ Some n → n < 9223372036854775810
+    go true from to e f q = absurd (cc)
+    go false false to e f q = absurd (cc)
+    go false true false e f q = absurd (cc)
+    go false true true e f q =
+        let same : m * 10 + (b - 48) ≡ n = cc in
+        omega (arith, ltb-false 922337203685477580 m e, leb-true b 57 f)
 
-pub begun : (word : List ℕ) (from : ℕ) → from < length word
-    → capped (onward 0 (drop from word)) ≡ capped (spelled (drop from word))
-unfolding spelled
-begun word from h = rw (drop-cons word from 0 h)
-
-pub next : (word whole : List ℕ) (m i r : ℕ) → i < length word → r ≡ further m (get_or word i 0)
-    → capped (onward m (drop i word)) ≡ capped (spelled whole)
-    → capped (onward r (drop (i + 1) word)) ≡ capped (spelled whole)
-next word whole m i r h e so =
-    rw (e, add-one i) (sym (step m (get_or word i 0) (drop (suc i) word)) ∙ rw (drop-cons word i 0 h) at so)
-
-pub missing : (word : List ℕ) (from : ℕ) → length word ≤ from
-    → 18446744073709551615 ≡ capped (spelled (drop from word))
-unfolding spelled
-missing word from h = rw (drop_of_length-le word {i = from} h)
-
-pub ended : (word whole : List ℕ) (m i : ℕ) → length word ≤ i → capped (some m) ≡ m
-    → capped (onward m (drop i word)) ≡ capped (spelled whole) → m ≡ capped (spelled whole)
-unfolding onward
-ended word whole m i h own e = sym own ∙ rw (drop_of_length-le word {i = i} h) at e
-
--- ---- by the number kept, or what stands for none
-
-module _ (m : ℕ) where
-  pub count_is : (o : Option ℕ) → m ≡ capped o → m ≤ 4294967295 → Is m ≡ counted o
-  count_is none e h = absurd (omega arith)
-  count_is (some n) e h = go (ltb n 9223372036854775810) e
+-- a sign or a bound is put to what is kept as to what is spelled
+module _ {A : Type 0} (f : ℕ → Option A) (far : (n : ℕ) → 9223372036854775810 ≤ n → f n ≡ None) where
+  pub kept-put : (o : Option ℕ) → option_and_then f (option_and_then within o) ≡ option_and_then f o
+  kept-put None = refl
+  kept-put (Some n) = go (ltb n 9223372036854775810) refl
     where
-      go : (t : Bool) → m ≡ cond t n 18446744073709551615 → Is m ≡ counted (some n)
-      go true p = rw (← p, lt-ltb m (2 ^ 32) (omega arith))
-      go false p = absurd (omega arith)
+      go : (t : Bool) → ltb n 9223372036854775810 ≡ t → option_and_then f (cond t (Some n) None) ≡ f n
+      go true g = refl
+      go false g = sym (far n (ltb-false n 9223372036854775810 g))
 
-  pub count_none : (o : Option ℕ) → m ≡ capped o → 4294967295 < m → Nothing ≡ counted o
-  count_none none e h = refl
-  count_none (some n) e h = go (ltb n 9223372036854775810) refl e
-    where
-      go : (t : Bool) → ltb n 9223372036854775810 ≡ t → m ≡ cond t n 18446744073709551615 → Nothing ≡ counted (some n)
-      go true f p = rw (le-ltb n (2 ^ 32) (omega arith))
-      go false f p = rw (le-ltb n (2 ^ 32) (omega (arith, ltb-false n 9223372036854775810 f)))
+pub kept-counted : (o : Option ℕ) → option_and_then counted (option_and_then within o) ≡ option_and_then counted o
+kept-counted = kept-put counted (λ n h. rw (le-ltb n (2 ^ 32) (omega arith)) refl)
 
-  -- a sign is put to what is kept
-  fit : (f : ℕ → Constant) → ((n : ℕ) → 9223372036854775810 ≤ n → f 18446744073709551615 ≡ f n)
-      → f 18446744073709551615 ≡ fitting f none
-      → (o : Option ℕ) → m ≡ capped o → f m ≡ fitting f o
-  fit f far empty none e = ap f e ∙ empty
-  fit f far empty (some n) e = go (ltb n 9223372036854775810) refl e
-    where
-      go : (t : Bool) → ltb n 9223372036854775810 ≡ t → m ≡ cond t n 18446744073709551615 → f m ≡ f n
-      go true g p = ap f p
-      go false g p = ap f p ∙ far n (ltb-false n 9223372036854775810 g)
+pub kept-at_most : (o : Option ℕ) → option_and_then at_most (option_and_then within o) ≡ option_and_then at_most o
+unfolding at_most
+kept-at_most = kept-put at_most (λ n h. rw (le-ltb n (2 ^ 63) (omega arith)) refl)
 
-  pub fit-above : (o : Option ℕ) → m ≡ capped o → at_most m ≡ fitting at_most o
-  unfolding at_most
-  fit-above = fit at_most (λ n h. rw (le-ltb n (2 ^ 63) (omega arith))) refl
-
-  pub fit-below : (o : Option ℕ) → m ≡ capped o → below m ≡ fitting below o
-  unfolding below
-  fit-below = fit below (λ n h. rw (ne_eqb n 0 (omega arith), le-ltb (n - 1) (2 ^ 63) (omega arith))) refl
+pub kept-below : (o : Option ℕ) → option_and_then below (option_and_then within o) ≡ option_and_then below o
+unfolding below
+kept-below =
+    kept-put below (λ n h. rw (ne_eqb n 0 (omega arith), le-ltb (n - 1) (2 ^ 63) (omega arith)) refl)

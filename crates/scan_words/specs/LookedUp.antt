@@ -1,95 +1,57 @@
--- The words of a text one after another, and a word looked up among them.
-use Rattle.std.specs.Prelude.{◌≡◌, refl, Bool, true, false, cond, ◌&&◌, List, [], ◌∷◌, eqb, length, take, drop}
-use Rattle.std.proofs.Common.{sym, ap, true≢false, arith, drop_of_length-le, take_all, drop-drop, eqb-true, eq-eqb}
-use Prim.Native.Nat.{ℕ, suc, ◌+◌, ◌-◌, ◌<◌, ◌≤◌}
-use Rattle.std.proofs.Math.Seq.{drop-cons}
-use Rattle.scan_words.specs.Finding.{slice, index_of, index_after}
-use Rattle.scan_words.specs.Names.{equal, place, words, ahead}
+-- A word looked up among names, each with what it stands for beside it.
+use Rattle.std.specs.Prelude.{◌≡◌, refl, Bool, true, false, cond, List, [], ◌∷◌, ℕ, zero, suc, map, slice_get, IfSome, ◌<◌}
+use Rattle.std.proofs.Common.{Option, Some, None, ap, ◌∙◌, bytes_eq, find, option_map, Bor, take, sym, ltb, ◌&&◌, arith}
+use Rattle.std.specs.List.{list_all}
+use Rattle.std.proofs.lemmas.Bool.Decides.{nat_tests}
+use borrow.Author.Tests.{ltb-true}
+use Rattle.scan_words.specs.Names.{place, numbers, dashed}
 
--- words that `equal` holds for are equal
-equal_cons : (x y : ℕ) (xs ys : List ℕ) (t : Bool) → eqb x y ≡ t → (equal xs ys ≡ true → xs ≡ ys)
-    → (t && equal xs ys) ≡ true → x ∷ xs ≡ y ∷ ys
-equal_cons x y xs ys true p rest q = let first : x ≡ y = eqb-true x y p in let more : xs ≡ ys = rest q in cc
-equal_cons x y xs ys false p rest q = absurd (true≢false (sym q))
+module _ {A : Type 0} (word : List ℕ) where
+  -- what stands beside the first name that the word is
+  beside : (names : List (Bor (List ℕ) × A))
+      → option_map (λ n. n.1) (find (λ n. bytes_eq word n.0.now) names)
+      ≡ slice_get (map (λ n. n.1) names) (place word (map (λ n. n.0.now) names))
+  unfolding place
+  beside [] = refl
+  beside (n ∷ names) = go (bytes_eq word n.0.now) (beside names)
+    where
+      go : (t : Bool) → option_map (λ n. n.1) (find (λ n. bytes_eq word n.0.now) names)
+          ≡ slice_get (map (λ n. n.1) names) (place word (map (λ n. n.0.now) names))
+          → option_map (λ n. n.1) (cond t (Some n) (find (λ n. bytes_eq word n.0.now) names))
+          ≡ slice_get (map (λ n. n.1) (n ∷ names)) (cond t 0 (suc (place word (map (λ n. n.0.now) names))))
+      go true e = refl
+      go false e = e
 
-pub equal_is : (a b : List ℕ) → equal a b ≡ true → a ≡ b
-unfolding equal
-equal_is [] [] e = refl
-equal_is [] (y ∷ ys) e = absurd (true≢false (sym e))
-equal_is (x ∷ xs) [] e = absurd (true≢false (sym e))
-equal_is (x ∷ xs) (y ∷ ys) e = equal_cons x y xs ys (eqb x y) refl (equal_is xs ys) e
+  -- the same of a name found by a reference to it
+  pub found : (names : List (Bor (List ℕ) × A)) (r : Option (Bor (Bor (List ℕ) × A)))
+      → option_map (λ x. x.now) r ≡ find (λ n. bytes_eq word n.0.now) names
+      → option_map (λ x. x.now.1) r ≡ slice_get (map (λ n. n.1) names) (place word (map (λ n. n.0.now) names))
+  found names None e = ap (option_map (λ n. n.1)) e ∙ beside names
+  found names (Some x) e = ap (option_map (λ n. n.1)) e ∙ beside names
 
-pub equal-same : (a : List ℕ) → equal a a ≡ true
-unfolding equal
-equal-same [] = refl
-equal-same (x ∷ xs) = rw (eq-eqb x x refl) (equal-same xs)
-
--- a word that is the first name, and one that is not
-pub place_here : (word name : List ℕ) (names : List (List ℕ)) → word ≡ name → place word (name ∷ names) ≡ 0
-unfolding place
-place_here word name names e = rw (← e, equal-same word)
-
-pub place-next : (word name : List ℕ) (names : List (List ℕ)) → (word ≡ name → ⊥)
-    → place word (name ∷ names) ≡ suc (place word names)
-unfolding place
-place-next word name names other = go (equal word name) refl
+-- an operator is one of the eight of document 01
+low : (xs : List ℕ) → list_all (λ x. ltb x 8) xs ≡ true → (k op : ℕ) → slice_get xs k ≡ Some op → op < 8
+low [] all k op e = absurd (cc)
+low (x ∷ xs) all zero op e = go (ltb x 8) refl all
   where
-    go : (t : Bool) → equal word name ≡ t → cond t 0 (suc (place word names)) ≡ suc (place word names)
-    go true e = absurd (other (equal_is word name e))
-    go false e = refl
+    go : (t : Bool) → ltb x 8 ≡ t → (t && list_all (λ y. ltb y 8) xs) ≡ true → op < 8
+    go true small rest = let same : x ≡ op = cc in omega (arith, ltb-true x 8 small)
+    go false small rest = absurd (cc)
+low (x ∷ xs) all (suc k) op e = go (ltb x 8) all (λ rest. low xs rest k op e)
+  where
+    go : (t : Bool) → (t && list_all (λ y. ltb y 8) xs) ≡ true → (list_all (λ y. ltb y 8) xs ≡ true → op < 8)
+        → op < 8
+    go true rest more = more rest
+    go false rest more = absurd (cc)
 
--- a text that is not empty is its first word and the words behind the next blank
-step_by : (b : ℕ) (text : List ℕ) (t : Bool)
-    → ahead b (words text) ≡ (b ∷ take (index_of 32 text) text) ∷ words (drop (suc (index_of 32 text)) text)
-    → cond t ([] ∷ words text) (ahead b (words text))
-    ≡ take (index_after t (index_of 32 text)) (b ∷ text)
-    ∷ words (drop (suc (index_after t (index_of 32 text))) (b ∷ text))
-unfolding index_after
-step_by b text true e = refl
-step_by b text false e = e
+pub number_low : (k : ℕ) (r : Option ℕ) → r ≡ slice_get numbers k → IfSome r (λ op. op < 8)
+unfolding numbers
+number_low k None e = tt
+number_low k (Some op) e = low (0 ∷ 1 ∷ 2 ∷ 3 ∷ 4 ∷ 5 ∷ 6 ∷ 7 ∷ []) refl k op (sym e)
 
-words_step : (b : ℕ) (text : List ℕ)
-    → words (b ∷ text)
-    ≡ take (index_of 32 (b ∷ text)) (b ∷ text) ∷ words (drop (suc (index_of 32 (b ∷ text))) (b ∷ text))
-unfolding words index_of
-words_step b [] = step_by b [] (eqb b 32) refl
-words_step b (c ∷ more) = step_by b (c ∷ more) (eqb b 32) (ap (ahead b) (words_step c more))
-
--- ---- a name after another: the one at `at` ends where the next blank stands, k names stand before it
-
-module _ (word text : List ℕ) (at k end : ℕ) (h : at < length text)
-    (found : end ≡ at + index_of 32 (slice at (length text) text))
-    (before : k + place word (words (drop at text)) ≡ place word (words text)) where
-  first : words (drop at text) ≡ take (end - at) (drop at text) ∷ words (drop (end + 1) text)
-  unfolding slice
-  first =
-      let size : end - at ≡ index_of 32 (drop at text) =
-      omega (arith, rw (take_all (length text) text (omega arith)) at found) in
-      let next : end + 1 ≡ at + suc (index_of 32 (drop at text)) =
-      omega (arith, rw (take_all (length text) text (omega arith)) at found) in
-      rw (size, next, ← (drop-drop (suc (index_of 32 (drop at text))) at text), drop-cons text at 0 h) (words_step _ _)
-
-  pub found_here : word ≡ take (end - at) (drop at text) → k ≡ place word (words text)
-  found_here e =
-      omega (
-        arith,
-        before,
-        ap (place word) first,
-        place_here word (take (end - at) (drop at text)) (words (drop (end + 1) text)) e,
-      )
-
-  pub found-later : (word ≡ take (end - at) (drop at text) → ⊥)
-      → k + 1 + place word (words (drop (end + 1) text)) ≡ place word (words text)
-  found-later other =
-      omega (
-        arith,
-        before,
-        ap (place word) first,
-        place-next word (take (end - at) (drop at text)) (words (drop (end + 1) text)) other,
-      )
-
--- past the text there is no name
-pub found_none : (word text : List ℕ) (at k : ℕ) → length text ≤ at
-    → k + place word (words (drop at text)) ≡ place word (words text) → k ≡ place word (words text)
-unfolding place words
-found_none word text at k h before = omega (arith, rw (drop_of_length-le text {i = at} h) at before)
+-- two dashes are the first two bytes
+pub two_dashes : (word : List ℕ) → bytes_eq (45 ∷ 45 ∷ []) (take 2 word) ≡ dashed word
+unfolding dashed
+two_dashes [] = refl
+two_dashes (x ∷ []) = grind (arith, nat_tests)
+two_dashes (x ∷ y ∷ word) = grind (arith, nat_tests)

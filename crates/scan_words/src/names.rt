@@ -1,139 +1,142 @@
 // Operators, layouts and options by the words that are typed for them.
-ghost use Rattle.std.specs.Prelude.{◌≡◌, ◌≤◌, ltb, length};
-ghost use Rattle.scan_words.specs.Names.{place, words, operators, operator_number, layouts, options};
-ghost use Rattle.scan_words.specs.Names.{dashed, insteads};
-
-use crate::finding::find;
-use check::same;
-
-pub const NO_OPERATOR: u32 = 8;
+ghost use Rattle.std.specs.Prelude.{◌≡◌, ◌<◌, IfSome, map, slice_get};
+ghost use Rattle.scan_words.specs.Names.{place, operators, operator_number, layouts, options};
+ghost use Rattle.scan_words.specs.Names.{dashed, insteads, numbers, openings, settings, pleas};
 
 // The first operator that takes two constants.
 pub const BETWEEN: u32 = 6;
 
-pub const HORIZONTAL: u32 = 0;
-
-pub const PLANES: u32 = 1;
-
-pub const RUNS: u32 = 2;
-
-pub const DELTA: u32 = 3;
-
-pub const DICTIONARY: u32 = 4;
-
-// Typed where a layout stands, it asks for help.
-pub const HELP: u32 = 5;
-
-pub const NO_LAYOUT: u32 = 6;
-
-pub const WIDTH: u32 = 0;
-
-pub const ENTRIES: u32 = 1;
-
-pub const LAST: u32 = 2;
-
-pub const BITMAP: u32 = 3;
-
-pub const NUMBERS: u32 = 4;
-
-pub const START: u32 = 5;
-
-pub const DAY: u32 = 6;
-
-pub const SPANS: u32 = 7;
-
-pub const JOIN: u32 = 8;
-
-pub const NO_OPTION: u32 = 9;
-
-pub const VERSION: u32 = 0;
-
-// What is asked for instead of a scan: the version, help by two names, or nothing.
-pub const NOTHING: u32 = 3;
-
-// Which of some names a word is, the first being 0; as many as there are where it is none. A blank stands
-// between names.
-fn place_in(word: &[u8], names: &[u8]) -> u32
-    requires { length names.now ≤ 100 }
-    ensures { result ≡ place word.now (words names.now) }
-{
-    let mut k: u32 = 0;
-    let mut at: usize = 0;
-    while at < names.len() {
-        let end = find(names, at, names.len(), b' ');
-        if same(word, &names[at..end]) {
-            return k;
-        }
-        k += 1;
-        at = end + 1;
-    }
-    k
+#[derive(Clone, Copy, PartialEq, Eq)]
+pub enum Layout {
+    Horizontal,
+    Planes,
+    Runs,
+    Delta,
+    Dictionary,
 }
 
-// The operator of a word, or NO_OPERATOR.
-pub fn operator(word: &[u8]) -> u32
-    ensures { result ≡ place word.now operators }
+// What may be typed where a layout stands.
+#[derive(Clone, Copy, PartialEq, Eq)]
+pub enum Opening {
+    Layout(Layout),
+    Help,
+}
+
+// The options.
+#[derive(Clone, Copy, PartialEq, Eq)]
+pub enum Setting {
+    Width,
+    Entries,
+    Last,
+    Bitmap,
+    Numbers,
+    Start,
+    Day,
+    Spans,
+    Join,
+}
+
+// What is asked for instead of a scan.
+#[derive(Clone, Copy, PartialEq, Eq)]
+pub enum Instead {
+    Version,
+    Help,
+}
+
+// What a word stands for, of some words.
+fn named<T: Copy>(word: &[u8], names: &[(&[u8], T)]) -> Option<T>
+    ensures { result
+        ≡ slice_get (map (λ n. n.1) names.now) (place word.now (map (λ n. n.0.now) names.now)) }
 {
-    place_in(
+    let (_, meaning) = names.iter().find(|name| word == name.0)?;
+    Some(*meaning)
+}
+
+// The operator of a word.
+pub fn read_operator(word: &[u8]) -> Option<u32>
+    ensures value { result ≡ slice_get numbers (place word.now operators) }
+    ensures known { IfSome result (λ op. op < 8) }
+{
+    named(
         word,
-        b"equal not-equal less at-most greater at-least between not-between",
+        &[
+            (b"equal", 0),
+            (b"not-equal", 1),
+            (b"less", 2),
+            (b"at-most", 3),
+            (b"greater", 4),
+            (b"at-least", 5),
+            (b"between", 6),
+            (b"not-between", 7),
+        ],
     )
 }
 
-// The operator of a digit, or NO_OPERATOR.
-pub fn operator_number(word: &[u8]) -> u32
-    ensures { result ≡ operator_number word.now }
+// The operator of a digit.
+pub fn read_digit(word: &[u8]) -> Option<u32>
+    ensures value { result ≡ slice_get numbers (operator_number word.now) }
+    ensures known { IfSome result (λ op. op < 8) }
 {
-    if word.len() != 1 {
-        return NO_OPERATOR;
+    if word.len() != 1 || word[0] < b'0' || b'7' < word[0] {
+        return None;
     }
-    let digit = word[0];
-    if digit < b'0' {
-        return NO_OPERATOR;
-    }
-    if b'7' < digit {
-        return NO_OPERATOR;
-    }
-    (digit - b'0') as u32
+    Some((word[0] - b'0') as u32)
 }
 
-// The layout of a word, or NO_LAYOUT.
-pub fn layout(word: &[u8]) -> u32
-    ensures { result ≡ place word.now layouts }
+// The layout of a word, or help.
+pub fn read_opening(word: &[u8]) -> Option<Opening>
+    ensures { result ≡ slice_get openings (place word.now layouts) }
 {
-    place_in(word, b"horizontal planes runs delta dictionary help")
-}
-
-// Has a page of this layout no width of its own.
-pub fn needs_width(layout: u32) -> bool
-    ensures { result ≡ ltb layout 3 }
-{
-    layout < DELTA
+    named(
+        word,
+        &[
+            (b"horizontal", Opening::Layout(Layout::Horizontal)),
+            (b"planes", Opening::Layout(Layout::Planes)),
+            (b"runs", Opening::Layout(Layout::Runs)),
+            (b"delta", Opening::Layout(Layout::Delta)),
+            (b"dictionary", Opening::Layout(Layout::Dictionary)),
+            (b"help", Opening::Help),
+        ],
+    )
 }
 
 // Does a word open an option.
 pub fn is_option(word: &[u8]) -> bool
     ensures { result ≡ dashed word.now }
 {
-    if word.len() < 2 {
-        return false;
-    }
-    word[0] == b'-' && word[1] == b'-'
+    word.starts_with(b"--")
 }
 
-// The option of a word, or NO_OPTION.
-pub fn option(word: &[u8]) -> u32
-    ensures { result ≡ place word.now options }
+// The option of a word.
+pub fn read_setting(word: &[u8]) -> Option<Setting>
+    ensures { result ≡ slice_get settings (place word.now options) }
 {
-    place_in(
+    named(
         word,
-        b"--width --entries --last --bitmap --numbers --start --day --spans --join",
+        &[
+            (b"--width", Setting::Width),
+            (b"--entries", Setting::Entries),
+            (b"--last", Setting::Last),
+            (b"--bitmap", Setting::Bitmap),
+            (b"--numbers", Setting::Numbers),
+            (b"--start", Setting::Start),
+            (b"--day", Setting::Day),
+            (b"--spans", Setting::Spans),
+            (b"--join", Setting::Join),
+        ],
     )
 }
 
-// What a word asks for instead of a scan, or NOTHING.
-pub fn instead(word: &[u8]) -> u32
-    ensures { result ≡ place word.now insteads }
+// What a word asks for instead of a scan.
+pub fn read_instead(word: &[u8]) -> Option<Instead>
+    ensures { result ≡ slice_get pleas (place word.now insteads) }
 {
-    place_in(word, b"--version --help -h")
+    named(
+        word,
+        &[
+            (b"--version", Instead::Version),
+            (b"--help", Instead::Help),
+            (b"-h", Instead::Help),
+        ],
+    )
 }

@@ -5,8 +5,4 @@ use lib.ListN.{length}
 use Rattle.scan.proofs.column.walked.Given as goal
 
 abbrev pub invariant-loop-k : goal.invariant-loop-k
-invariant-loop-k g l =
-    (length l.files < 18446744073709551616) × (length l.bitmap ≡ length l.initial.bitmap)
-
-abbrev pub decreases-loop-k : goal.decreases-loop-k
-decreases-loop-k g l = length l.files - l.k
+invariant-loop-k g l = length l.bitmap ≡ length l.initial.bitmap

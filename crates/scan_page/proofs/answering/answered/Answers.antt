@@ -1,17 +1,12 @@
 -- `scan_page::answering::answered` meets its contract: a refusal keeps the bitmap, and what was accepted are the
 -- bytes that were read.
-use mathlib.Core.Path.{◌≡◌, refl}
-use native.Mathlib.Omega.{arith}
-use lib.ListN.{length, take}
+use Rattle.std.proofs.Common.{◌≡◌, length, take, arith}
 use Rattle.scan_page.specs.Answered.{all_in_words, scan_keeps}
 use Rattle.scan_page.proofs.answering.answered.Goals as goal
 use Rattle.scan_page.proofs.answering.answered.Goals.{
-  else-q-eq-PLANES-via-then-q-eq-PLANES+else-size-ne0,
-  else-q-eq-PLANES-via-else-q-eq-PLANES,
+  else-in_words-via-then-in_words+else-size-ne0,
+  else-in_words-via-else-in_words,
 }
-
-pub returns-then-size-ne0 : goal.returns-then-size-ne0
-returns-then-size-ne0 g c = rw c.tell.ensures refl
 
 pub returns-then-answer-ne0 : goal.returns-then-answer-ne0
 returns-then-answer-ne0 g c =
@@ -22,18 +17,19 @@ returns-then-answer-ne0 g c =
 
 pub returns : goal.returns
 returns g c =
-    let f = c.read-file in
-    let size : f.result.bytes ≡ length (take f.result.bytes f.new.places) = f.ensures.1 in
-    let room : length f.new.places ≡ 163840 = f.auto.places in
+    let n = c.in-Some.size in
+    let places = c.read.new.places in
+    let size : n ≡ length (take n places) = c.in-Some.ensures.1 in
+    let room : length places ≡ 163840 = c.read.auto.places in
     record {
-      page = take f.result.bytes f.new.places;
+      page = take n places;
       count = c.scan-answer.result.number;
       whole =
           λ planes.
-          all_in_words _ (omega (arith, f.ensures.0))
-          (elim c.else-q-eq-PLANES.branch [
-            | else-q-eq-PLANES-via-then-q-eq-PLANES+else-size-ne0 w ↦ omega (arith, w.if-size-ne0.false)
-            | else-q-eq-PLANES-via-else-q-eq-PLANES w ↦ absurd (w.if-q-eq-PLANES.false planes)
+          all_in_words _ (omega (arith, c.in-Some.ensures.0))
+          (elim c.else-in_words.branch [
+            | else-in_words-via-then-in_words+else-size-ne0 w ↦ omega (arith, w.if-size-ne0.false)
+            | else-in_words-via-else-in_words w ↦ absurd (cc)
           ]);
       scan = rw c.if-answer-ne0.false at c.scan-answer.ensures;
     }

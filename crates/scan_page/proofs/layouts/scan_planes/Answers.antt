@@ -16,5 +16,5 @@ returns c =
     let a : to_z w64 (of_z w64 q.a) ≡ q.a = search rules in
     let b : to_z w64 (of_z w64 q.b) ≡ q.b = search rules in
     rw (a, b) at c.scan.ensures
-    ∙ ap (λ (l : List ℕ). Vertical.scan l q.width c.args.n q.op q.a q.b c.args.bitmap.now)
+    ∙ ap (λ (l : List ℕ). Vertical.scan l c.args.width c.args.n q.op q.a q.b c.args.bitmap.now)
     (front-words _ _ c.args.page.now w.result (search rules) w.ensures.value w.ensures.words_after)

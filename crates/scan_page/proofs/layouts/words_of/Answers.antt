@@ -15,7 +15,6 @@ loop-k-init c = (
   search rules,
   search rules,
   search rules,
-  search rules,
   tabulate-none c.args.words.now 0 (word_at c.args.page.now),
 )
 
@@ -26,8 +25,7 @@ loop-k-preserved c =
       search rules,
       search rules,
       search rules,
-      search rules,
-      ap₂ (λ (words : List ℕ) (x : ℕ). set words k x) c.loop-k.invariant.4 c.load_any.ensures
+      ap₂ (λ (words : List ℕ) (x : ℕ). set words k x) c.loop-k.invariant.3 c.load_any.ensures
           ∙ put-tabulate c.args.words.now k (word_at page) (omega arith),
     )
 
@@ -35,6 +33,6 @@ pub returns : goal.returns
 returns c =
     let all : c.loop-k.k ≡ c.min-all.result = omega arith in record {
       value = search rules;
-      words_after = c.loop-k.invariant.4
+      words_after = c.loop-k.invariant.3
           ∙ ap (λ (k : ℕ). put c.args.words.now 0 (tabulate k (word_at c.args.page.now))) all;
     }

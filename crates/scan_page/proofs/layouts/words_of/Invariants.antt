@@ -9,7 +9,4 @@ use Rattle.scan_page.proofs.layouts.words_of.Given as goal
 abbrev pub invariant-loop-k : goal.invariant-loop-k
 invariant-loop-k l =
     (8 * l.all ≤ length l.page) × (l.all ≤ length l.initial.words) × (length l.words ≡ length l.initial.words)
-    × (l.k ≤ l.all) × (l.words ≡ put l.initial.words 0 (tabulate l.k (word_at l.page)))
-
-abbrev pub decreases-loop-k : goal.decreases-loop-k
-decreases-loop-k l = l.all - l.k
+    × (l.words ≡ put l.initial.words 0 (tabulate l.k (word_at l.page)))

@@ -1,17 +1,14 @@
 -- `scan_words::numbers::read_count` meets its contract: what is kept of the digits, where it is below 2^32.
-use native.Mathlib.Omega.{arith}
+use Rattle.std.proofs.Common.{arith}
+use Rattle.std.proofs.lemmas.Bool.Decides.{nat_tests}
 use Rattle.scan_words.specs.Numbers.{spelled, count_of}
-use Rattle.scan_words.specs.DigitByDigit.{count_is, count_none}
+use Rattle.scan_words.specs.DigitByDigit.{kept-counted}
 use Rattle.scan_words.proofs.numbers.read_count.Goals as goal
 
-pub returns-then-m-le4294967295 : goal.returns-then-m-le4294967295
+pub returns-in_err-magnitude : goal.returns-in_err-magnitude
 unfolding count_of
-returns-then-m-le4294967295 c =
-    count_is c.magnitude-m.result (spelled c.args.word.now) c.magnitude-m.ensures
-    (omega arith)
+returns-in_err-magnitude c = grind (arith, nat_tests, kept-counted (spelled c.args.word.now))
 
 pub returns : goal.returns
 unfolding count_of
-returns c =
-    count_none c.magnitude-m.result (spelled c.args.word.now) c.magnitude-m.ensures
-    (omega arith)
+returns c = grind (arith, nat_tests, kept-counted (spelled c.args.word.now))
