@@ -10,6 +10,7 @@ mod code_table;
 
 const HEADER: &str = include_str!("../../include/cahermisk.h");
 const README: &str = include_str!("../../README.md");
+const LIBRARY: &str = include_str!("../../crates/rules/src/lib.rt");
 const PROGRAM: &str = include_str!("../../crates/scan_says/src/lib.rt");
 const MAN_PAGE: &str = include_str!("../../docs/scan.1");
 const PACKAGE: &str = include_str!("../src/refusal.rs");
@@ -121,13 +122,12 @@ fn the_package_keeps_the_number_of_a_code_that_it_has_no_name_for() {
     }
 }
 
-/// The number and the words of an arm `NUMBER => say(streams, b"WORDS")`, from what is before and behind `=> say(`.
-fn arm<'a>(before: &'a str, behind: &'a str) -> Option<[&'a str; 2]> {
-    let number = before.split_whitespace().last()?;
-    number.parse::<u32>().ok()?;
-    let words = behind.trim_start().strip_prefix("streams,")?;
-    let words = words.trim_start().strip_prefix("b\"")?;
-    Some([number, words.split_once('"')?.0])
+/// The name and the words of an arm `Refusal::NAME => b"WORDS"`, which may stand in braces, from what is behind `Refusal::`.
+fn arm(behind: &str) -> Option<[&str; 2]> {
+    let (name, words) = behind.split_once(" => ")?;
+    let words = words.trim_start_matches(|c: char| c == '{' || c.is_whitespace());
+    let words = words.strip_prefix("b\"")?;
+    Some([name, words.split_once('"')?.0])
 }
 
 /// The number and the sentence of each code that the program has words for.
@@ -139,10 +139,29 @@ fn sentences() -> Vec<[&'static str; 2]> {
 
 #[test]
 fn the_program_says_what_each_refusal_means() {
-    let parts: Vec<&str> = PROGRAM.split("=> say(").collect();
-    let arms = parts.windows(2).filter_map(|pair| arm(pair[0], pair[1]));
-    let said: Vec<_> = arms.collect();
-    hold("crates/scan_says/src/lib.rt", &said, &sentences());
+    let arms = between(PROGRAM, "fn meaning(", "\n}").expect("its sentences");
+    let said = arms.split("Refusal::").filter_map(arm);
+    let said: Vec<_> = said.filter(|[_, words]| *words != NO_MEANING).collect();
+    let told = |[_, _, name, _, sentence]: [&'static str; 5]| [name, sentence];
+    let all = rows().into_iter().map(told);
+    let rows: Vec<_> = all.filter(|row| row[1] != NONE).collect();
+    hold("crates/scan_says/src/lib.rt", &said, &rows);
+}
+
+/// What the program has for a code that no scan gives.
+const NO_MEANING: &str = "a code without a meaning here";
+
+/// The library gives each refusal that it has the number of the row with its name; 17 it never gives.
+#[test]
+fn the_proved_library_numbers_each_refusal() {
+    let arms = between(LIBRARY, "pub fn code(self)", "\n    }\n}").expect("its numbers");
+    let numbered = |arm: &'static str| arm.split_once(" => ").map(<[&str; 2]>::from);
+    let arms = arms.split("Refusal::").filter_map(numbered);
+    let said: Vec<_> = arms.filter_map(|[name, rest]| Some([name, rest.split_once(',')?.0])).collect();
+    let told = |[number, _, name, ..]: [&'static str; 5]| [name, number];
+    let all = rows().into_iter().map(told);
+    let rows: Vec<_> = all.filter(|[name, _]| *name != NONE && *name != "MiniblockTooWide").collect();
+    hold("crates/rules/src/lib.rt", &said, &rows);
 }
 
 #[test]

@@ -1,7 +1,7 @@
 // What is asked of a column: judged word by word, and answered by the column if it is a question.
 use crate::column::answered;
 use crate::keeping;
-use dictionary_scan::judging::dictionary_fault;
+use dictionary_scan::judging::judge_dictionary;
 use scan_day::seconds::{FULL, needed, start_of};
 use scan_page::layouts::{PageLayout, Question};
 use scan_question::options::{Asked, MOST, sorted_out};
@@ -123,9 +123,8 @@ fn with_dictionary<R: Env + Files>(
     }
     let mut dictionary = [0u8; VALUES];
     let n = files::read(system, at, &mut dictionary).ok_or(Sentence::NoDictionary)?;
-    let fault = dictionary_fault(&dictionary[..n]);
-    if fault != 0 {
-        tell(system, Sentence::Refused(at, fault));
+    if let Err(refusal) = judge_dictionary(&dictionary[..n]) {
+        tell(system, Sentence::Refused(at, refusal));
         return Err(Sentence::NoDictionary);
     }
     answered(system, q, asked, entries, at, &dictionary[..n], files);

@@ -30,9 +30,8 @@ pub fn answered<R: Env + Files>(
     if q.layout.in_words() && size % 8 != 0 {
         return tell(system, Sentence::NoWords(at));
     }
-    let answer = layouts::scan(q, dictionary, &page[..size], n, bitmap);
-    if answer.code != 0 {
-        return tell(system, Sentence::Refused(at, answer.code));
+    match layouts::scan(q, dictionary, &page[..size], n, bitmap) {
+        Ok(_) => true,
+        Err(refusal) => tell(system, Sentence::Refused(at, refusal)),
     }
-    true
 }

@@ -2,10 +2,11 @@
 ghost use Rattle.std.specs.Prelude.{◌≡◌, ◌/◌, min, length};
 ghost use Rattle.rules.specs.Answer.Outcome.{outcome};
 ghost use Rattle.rules.specs.Bits.{put, tabulate};
+ghost use Rattle.rules.specs.Refusals.{answer_of};
 ghost use Rattle.rules.specs.Vertical as Vertical;
 ghost use Rattle.scan_page.specs.Layouts.{in_words, word_at, words_of, scan_of};
 
-use rules::Answer;
+use rules::Refusal;
 use words::loads::load_any;
 
 // How a page is laid out, and the width of its entries where the layout needs one.
@@ -37,8 +38,14 @@ pub struct Question {
 }
 
 // One page of n entries scanned; the dictionary is empty in all layouts but its own.
-pub fn scan(q: Question, dictionary: &[u8], page: &[u8], n: usize, bitmap: &mut [u8]) -> Answer
-    ensures { outcome result bitmap.new
+pub fn scan(
+    q: Question,
+    dictionary: &[u8],
+    page: &[u8],
+    n: usize,
+    bitmap: &mut [u8],
+) -> Result<u32, Refusal>
+    ensures { outcome (answer_of result) bitmap.new
         ≡ scan_of q dictionary.now page.now n bitmap.old }
 {
     match q.layout {
@@ -59,8 +66,14 @@ pub fn scan(q: Question, dictionary: &[u8], page: &[u8], n: usize, bitmap: &mut 
 // As many words as a page's room has.
 const WORDS: usize = 20480;
 
-fn scan_planes(q: Question, width: u32, page: &[u8], n: usize, bitmap: &mut [u8]) -> Answer
-    ensures { outcome result bitmap.new
+fn scan_planes(
+    q: Question,
+    width: u32,
+    page: &[u8],
+    n: usize,
+    bitmap: &mut [u8],
+) -> Result<u32, Refusal>
+    ensures { outcome (answer_of result) bitmap.new
         ≡ Vertical.scan (words_of page.now) width n q.op q.a q.b
         bitmap.old }
 {

@@ -10,6 +10,7 @@ ghost use Rattle.std.specs.Prelude.{◌≡◌, false, ◌≤◌};
 use lines::Line;
 use lines::streams::{Stream, Streams};
 use reasons::fail;
+use rules::Refusal;
 use scan_day::clocks::clock;
 use scan_day::seconds;
 use scan_words::names::Setting;
@@ -46,8 +47,8 @@ pub enum Sentence {
     NoPages(usize),
     TooLong(usize),
     NoWords(usize),
-    // a word's place, and the code
-    Refused(usize, u32),
+    // a word's place, and why
+    Refused(usize, Refusal),
     NoDictionary,
     // a page that is the bitmap's file too
     OverPage(usize),
@@ -235,7 +236,7 @@ fn tell_of_pages<R: Env>(system: &System<R>, sentence: Sentence) {
             at,
             b": not read: bit planes are words of 8 bytes, and its length is no multiple of 8.",
         ),
-        Sentence::Refused(at, code) => refused(system, at, code),
+        Sentence::Refused(at, refusal) => refused(system, at, refusal),
         Sentence::OverPage(at) => about(
             system,
             at,
@@ -340,15 +341,15 @@ fn no_pages(streams: &Streams, dictionaries: usize) {
     }
 }
 
-fn refused<R: Env>(system: &System<R>, at: usize, code: u32) {
+fn refused<R: Env>(system: &System<R>, at: usize, refusal: Refusal) {
     let streams = &system.streams;
     typed(system, at);
     streams.write_all(Stream::Errors, b": refused with code ");
     let mut digits = [0u8; 20];
-    let n = io::decimal(code as u64, &mut digits);
+    let n = io::decimal(refusal.code() as u64, &mut digits);
     streams.write_all(Stream::Errors, &digits[..n]);
     streams.write_all(Stream::Errors, b": ");
-    say(streams, meaning(code));
+    say(streams, meaning(refusal));
 }
 
 fn many_pages(streams: &Streams, entries: usize, pages: usize) {
@@ -388,27 +389,27 @@ fn missing(streams: &Streams, day: u32, second: usize) {
         .write(streams, Stream::Errors);
 }
 
-// What a code means: of the arguments, of a page or its runs, of a layout's own.
-fn meaning(code: u32) -> &'static [u8] {
-    match code {
-        1 => b"width above 32",
-        2 => b"more than 16,384 entries",
-        3 => b"operator above 7",
-        4 => b"output too short",
-        5 => b"the page ends too early",
-        6 => b"bytes of the page are left over",
-        7 => b"unused bits not 0",
-        8 => b"run value not below 2^width",
-        9 => b"variable-length number beyond 32 bits",
-        10 => b"run of length 0",
-        11 => b"run goes too far past the page's entries",
-        12 => b"delta shape: block size or miniblock count not as allowed",
-        13 => b"delta count is not the entries asked of this page",
-        14 => {
+// What a refusal means: of the arguments, of a page or its runs, of a layout's own; a scan gives no other.
+fn meaning(refusal: Refusal) -> &'static [u8] {
+    match refusal {
+        Refusal::WidthAboveLimit => b"width above 32",
+        Refusal::TooManyEntries => b"more than 16,384 entries",
+        Refusal::OperatorAbove7 => b"operator above 7",
+        Refusal::OutputTooShort => b"output too short",
+        Refusal::InputEndsTooEarly => b"the page ends too early",
+        Refusal::InputLeftOver => b"bytes of the page are left over",
+        Refusal::UnusedBitsNot0 => b"unused bits not 0",
+        Refusal::ValueTooLarge => b"run value not below 2^width",
+        Refusal::NumberBeyondItsBits => b"variable-length number beyond 32 bits",
+        Refusal::RunOfLength0 => b"run of length 0",
+        Refusal::RunPastN => b"run goes too far past the page's entries",
+        Refusal::DeltaShape => b"delta shape: block size or miniblock count not as allowed",
+        Refusal::DeltaCountNotN => b"delta count is not the entries asked of this page",
+        Refusal::MalformedDictionary => {
             b"dictionary: length no multiple of 4, over 65,536 bytes, or values not strictly ascending"
         }
-        15 => b"index not below the dictionary's count",
-        _ => b"a code without a meaning here",
+        Refusal::IndexTooLarge => b"index not below the dictionary's count",
+        Refusal::SpansMisplaced => b"a code without a meaning here",
     }
 }
 

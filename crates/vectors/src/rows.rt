@@ -1,7 +1,7 @@
 // Tables of rows: a page that is unpacked as some function does, and what is published of it.
 use lines::Line;
 use lines::streams::Streams;
-use rules::Answer;
+use rules::{Answer, Refusal};
 use vectors_rows::{Entry, read, refused};
 
 // Where entries are put: more than any row has.
@@ -15,7 +15,7 @@ pub fn all_told<R, F: Fn(&R) -> bool>(rows: &[R], told: F) -> bool
 }
 
 // A page that is accepted, and its entries.
-pub fn reads<T: Entry, F: FnOnce(usize, &mut [T]) -> Answer>(
+pub fn reads<T: Entry, F: FnOnce(usize, &mut [T]) -> Result<u32, Refusal>>(
     streams: &Streams,
     asked: Line,
     published: &[T],
@@ -24,12 +24,12 @@ pub fn reads<T: Entry, F: FnOnce(usize, &mut [T]) -> Answer>(
 ) -> bool
     requires { F.IsAlwaysCallable unpack }
 {
-    let answer = unpack(published.len(), places);
+    let answer = Answer::from(unpack(published.len(), places));
     read(streams, asked, answer, places, published)
 }
 
 // A page that is refused, and the code.
-pub fn refuses<T: Entry, F: FnOnce(usize, &mut [T]) -> Answer>(
+pub fn refuses<T: Entry, F: FnOnce(usize, &mut [T]) -> Result<u32, Refusal>>(
     streams: &Streams,
     asked: Line,
     n: usize,
@@ -39,6 +39,6 @@ pub fn refuses<T: Entry, F: FnOnce(usize, &mut [T]) -> Answer>(
 ) -> bool
     requires { F.IsAlwaysCallable unpack }
 {
-    let answer = unpack(n, places);
+    let answer = Answer::from(unpack(n, places));
     refused(streams, asked, answer, code)
 }

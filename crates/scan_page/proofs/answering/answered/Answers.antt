@@ -1,5 +1,6 @@
 -- `scan_page::answering::answered` meets its contract: a refusal keeps the bitmap, and what was accepted are the
 -- bytes that were read.
+use Rattle.answers.specs.Laws.{code_some}
 use Rattle.std.proofs.Common.{◌≡◌, length, take, arith}
 use Rattle.scan_page.specs.Answered.{all_in_words, scan_keeps}
 use Rattle.scan_page.proofs.answering.answered.Goals as goal
@@ -8,22 +9,21 @@ use Rattle.scan_page.proofs.answering.answered.Goals.{
   else-in_words-via-else-in_words,
 }
 
-pub returns-then-answer-ne0 : goal.returns-then-answer-ne0
-returns-then-answer-ne0 g c =
+pub returns-in-Err : goal.returns-in-Err
+returns-in-Err g c =
     let a = c.args in
-    rw c.tell-then-answer-ne0.ensures
-    (scan_keeps a.q a.dictionary.now _ a.n a.bitmap.now c.scan-answer.result _ c.scan-answer.ensures
-    c.if-answer-ne0.true)
+    rw c.tell-in-Err.ensures
+    (scan_keeps a.q a.dictionary.now _ a.n a.bitmap.now _ _ c.in-Err.ensures (code_some _))
 
-pub returns : goal.returns
-returns g c =
+pub returns-in-Ok : goal.returns-in-Ok
+returns-in-Ok g c =
     let n = c.in-Some.size in
     let places = c.read.new.places in
     let size : n ≡ length (take n places) = c.in-Some.ensures.1 in
     let room : length places ≡ 163840 = c.read.auto.places in
     record {
       page = take n places;
-      count = c.scan-answer.result.number;
+      count = c.in-Ok.field-0;
       whole =
           λ planes.
           all_in_words _ (omega (arith, c.in-Some.ensures.0))
@@ -31,5 +31,5 @@ returns g c =
             | else-in_words-via-then-in_words+else-size-ne0 w ↦ omega (arith, w.if-size-ne0.false)
             | else-in_words-via-else-in_words w ↦ absurd (cc)
           ]);
-      scan = rw c.if-answer-ne0.false at c.scan-answer.ensures;
+      scan = c.in-Ok.ensures;
     }
