@@ -1,8 +1,8 @@
 // The index page: one width byte, and then a run stream.
 ghost use Rattle.std.specs.Prelude.{◌≡◌, ◌≤◌, ◌<◌, length};
-ghost use Rattle.rules.specs.Bits.{ceil};
-ghost use Rattle.rules.specs.Answer.{◌then◌, accepted, scanned};
-ghost use Rattle.rules.specs.Answer.Outcome.{outcome};
+ghost use Rattle.rules.specs.Bitmap as Bitmap;
+ghost use Rattle.rules.specs.Bits.{ceil, put};
+ghost use Rattle.rules.specs.Answer.{◌then◌};
 ghost use Rattle.rules.specs.Refusals.{fault};
 ghost use Rattle.rules.specs.Runs.{stream_fault};
 ghost use Rattle.rules.specs.Dictionary.{indexes, index_at};
@@ -10,7 +10,6 @@ ghost use Rattle.compare.specs.Range.{ranged, UsableRange};
 ghost use Rattle.dictionary_indexes.specs.IndexFaults.{large_fault};
 
 use crate::large::judge_runs;
-use bitmaps::counted;
 use compare::ranges::Range;
 use limits::Unsigned;
 use rules::Refusal;
@@ -38,14 +37,12 @@ pub fn judge_page(page: &[u8], n: usize, limit: usize) -> Result<(), Refusal>
     judge_runs(&page[1..], width as usize, n, limit, &mut scratch)
 }
 
-// Which indexes of a page without a fault a range selects, and how many.
-pub fn scan_range(page: &[u8], n: usize, range: Range, bitmap: &mut [u8]) -> u32
+// Which indexes of a page without a fault a range selects, a bit for each.
+pub fn select_range(page: &[u8], n: usize, range: Range, bitmap: &mut [u8])
     requires { (n ≤ 16384) × (ceil n 8 ≤ length bitmap.old) × (stream_fault (indexes n page.now) ≡ 0)
         × UsableRange range }
-    ensures { outcome (accepted result) bitmap.new
-        ≡ scanned 0 n (λ i. ranged range (index_at n page.now i)) bitmap.old }
+    ensures { bitmap.new
+        ≡ put bitmap.old 0 (Bitmap.bitmap n (λ i. ranged range (index_at n page.now i))) }
 {
-    let width = page[0] as usize;
-    mark_runs(&page[1..], width, n, range, bitmap);
-    counted(bitmap, n)
+    mark_runs(&page[1..], page[0] as usize, n, range, bitmap);
 }

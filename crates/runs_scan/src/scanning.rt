@@ -1,41 +1,47 @@
 // Which entries of a stream satisfy a comparison.
-ghost use Rattle.std.specs.Prelude.{◌≡◌, ◌≤◌, pos, length};
-ghost use Rattle.rules.specs.Bits.{ceil};
-ghost use Rattle.rules.specs.Answer.{◌then◌, room_fault, scanned};
+ghost use Rattle.std.specs.Prelude.{◌≡◌, pos};
+ghost use Rattle.rules.specs.Answer.{limit_fault};
 ghost use Rattle.rules.specs.Answer.Outcome.{outcome};
 ghost use Rattle.rules.specs.Refusals.{answer_of};
 ghost use Rattle.rules.specs.Runs as Runs;
-ghost use Rattle.compare.specs.Band.{banded};
+ghost use Rattle.runs_walk.specs.Values.{entry-small};
+ghost use Rattle.scannable.specs.Bounds.{unsigned_bounds};
 
-use answers::judge_room;
 use arguments::arguments_of;
-use bitmaps::counted;
 use compare::bands::Band;
 use compare::ranges::range_of;
 use rules::Refusal;
 use runs_read::judging::judge_stream;
 use runs_walk::marking::mark_runs;
+use scannable::Scannable;
 
-// By its band: the room and the stream are judged, then each run sets its bits, and they are counted.
-fn scan_band(
-    page: &[u8],
+#[derive(Clone, Copy)]
+struct RunStream<'a> {
+    page: &'a [u8],
     width: u32,
-    n: usize,
-    band: Band,
-    bitmap: &mut [u8],
-) -> Result<u32, Refusal>
-    requires { (width ≤ 32) × (n ≤ 16384) }
-    ensures { outcome (answer_of result) bitmap.new
-        ≡ scanned
-        (room_fault (length bitmap.old) (ceil n 8)
-        then Runs.stream_fault (Runs.read width n page.now)) n
-        (λ i. banded band (pos (Runs.stream_entry width (Runs.read width n page.now) i)))
-        bitmap.old }
-{
-    judge_room(bitmap.len(), (n + 7) / 8)?;
-    judge_stream(page, width as usize, n)?;
-    mark_runs(page, width as usize, n, range_of(band), bitmap);
-    Ok(counted(bitmap, n))
+}
+
+impl<'a> Scannable for RunStream<'a> {
+    ghost limits = { λ s n. limit_fault s.width n };
+
+    ghost page_fault = { λ s n. Runs.stream_fault (Runs.read s.width n s.page.now) };
+
+    ghost entry = { λ s n i. pos (Runs.stream_entry s.width (Runs.read s.width n s.page.now) i) };
+
+    ghost bounds = { λ s n. unsigned_bounds s.width n _ (λ narrow i. entry-small s.width n s.page.now i narrow) };
+
+    fn judge_arguments(self, n: usize, op: u32, a: i64, b: i64) -> Result<Band, Refusal> {
+        arguments_of(self.width, n, op, a, b)
+    }
+
+    fn judge_page(self, n: usize) -> Result<(), Refusal> {
+        judge_stream(self.page, self.width as usize, n)
+    }
+
+    // Each run sets its bits.
+    fn select(self, n: usize, band: Band, bitmap: &mut [u8]) {
+        mark_runs(self.page, self.width as usize, n, range_of(band), bitmap)
+    }
 }
 
 // How many entries are selected.
@@ -51,6 +57,5 @@ pub fn scan(
     ensures { outcome (answer_of result) bitmap.new
         ≡ Runs.scan page.now width n op a b bitmap.old }
 {
-    let band = arguments_of(width, n, op, a, b)?;
-    scan_band(page, width, n, band, bitmap)
+    scannable::scan(RunStream { page, width }, n, op, a, b, bitmap)
 }

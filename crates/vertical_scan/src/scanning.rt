@@ -1,19 +1,19 @@
 // Which entries of a column satisfy a comparison, 64 at once.
-ghost use Rattle.std.specs.Prelude.{◌≡◌, ◌+◌, ◌*◌, ◌≤◌, pos, length};
-ghost use Rattle.rules.specs.Bits.{ceil, put};
-ghost use Rattle.rules.specs.Answer.{◌then◌, room_fault, scanned};
+ghost use Rattle.std.specs.Prelude.{◌≡◌, ◌+◌, ◌*◌, ◌/◌, ◌%◌, ◌≤◌, pos, length};
+ghost use Rattle.rules.specs.Answer.{limit_fault};
 ghost use Rattle.rules.specs.Answer.Outcome.{outcome};
-ghost use Rattle.rules.specs.Vertical as Vertical;
+ghost use Rattle.rules.specs.Bits.{ceil, put};
 ghost use Rattle.rules.specs.Refusals.{answer_of};
-ghost use Rattle.compare.specs.Band.{banded};
+ghost use Rattle.rules.specs.Vertical as Vertical;
+ghost use Rattle.scannable.specs.Bounds.{unsigned_bounds};
+ghost use Rattle.vertical_compare.specs.Lanes.{lane-fits};
 ghost use Rattle.vertical_scan.specs.Chosen.{chosen, lanes64};
 
 use crate::judging::judge_page;
-use answers::judge_room;
 use arguments::arguments_of;
-use bitmaps::counted;
 use compare::bands::Band;
 use rules::Refusal;
+use scannable::Scannable;
 use vertical_compare::groups::compare_group;
 use words::stores::{store_low, store8};
 
@@ -55,25 +55,34 @@ fn select(words: &[u64], w: usize, n: usize, band: Band, bitmap: &mut [u8])
     store_low(bitmap, 8 * q, bits, (rest + 7) / 8);
 }
 
-// By its band: the room and the column are judged, then the bitmap is written and counted.
-fn scan_band(
-    words: &[u64],
+#[derive(Clone, Copy)]
+struct Planes<'a> {
+    words: &'a [u64],
     width: u32,
-    n: usize,
-    band: Band,
-    bitmap: &mut [u8],
-) -> Result<u32, Refusal>
-    requires { (width ≤ 32) × (n ≤ 16384) }
-    ensures { outcome (answer_of result) bitmap.new
-        ≡ scanned
-        (room_fault (length bitmap.old) (ceil n 8)
-        then Vertical.page_fault words.now width n) n
-        (λ i. banded band (pos (Vertical.entry words.now width i))) bitmap.old }
-{
-    judge_room(bitmap.len(), (n + 7) / 8)?;
-    judge_page(words, width, n)?;
-    select(words, width as usize, n, band, bitmap);
-    Ok(counted(bitmap, n))
+}
+
+impl<'a> Scannable for Planes<'a> {
+    ghost limits = { λ s n. limit_fault s.width n };
+
+    ghost page_fault = { λ s n. Vertical.page_fault s.words.now s.width n };
+
+    ghost entry = { λ s n i. pos (Vertical.entry s.words.now s.width i) };
+
+    ghost bounds = { λ s n.
+        unsigned_bounds s.width n _
+        (λ narrow i. lane-fits s.words.now (i / 64 * s.width) s.width (i % 64) narrow) };
+
+    fn judge_arguments(self, n: usize, op: u32, a: i64, b: i64) -> Result<Band, Refusal> {
+        arguments_of(self.width, n, op, a, b)
+    }
+
+    fn judge_page(self, n: usize) -> Result<(), Refusal> {
+        judge_page(self.words, self.width, n)
+    }
+
+    fn select(self, n: usize, band: Band, bitmap: &mut [u8]) {
+        select(self.words, self.width as usize, n, band, bitmap)
+    }
 }
 
 // How many entries are selected.
@@ -89,6 +98,5 @@ pub fn scan(
     ensures { outcome (answer_of result) bitmap.new
         ≡ Vertical.scan words.now width n op a b bitmap.old }
 {
-    let band = arguments_of(width, n, op, a, b)?;
-    scan_band(words, width, n, band, bitmap)
+    scannable::scan(Planes { words, width }, n, op, a, b, bitmap)
 }

@@ -1,34 +1,10 @@
--- `horizontal_scan::scanning::scan` meets its contract: the arguments' faults first, then the scan by the band.
-use mathlib.Core.Path.{refl, sym}
-use Prim.Native.Nat.{◌*◌}
+-- `horizontal_scan::scanning::scan` meets its contract: that of every scan, the constants coming through the call as
+-- they are.
 use mir.Syntax.{w64}
 use mir.ValLaws.{to_z-of_z}
-use Rattle.rules.specs.Bits.{entry}
-use Rattle.rules.specs.Bits.Order.{low_first}
 use Rattle.rules.specs.Horizontal as Horizontal
-use Rattle.answers.specs.Laws.{passed_up}
-use Rattle.words.specs.Entries.{field-small}
-use Rattle.arguments.specs.ScanAnswers.{scan-bad, unsigned-limits, unsigned-good}
 use Rattle.horizontal_scan.proofs.scanning.scan.Goals as goal
-
-pub scan_band-requires : goal.scan_band-requires
-scan_band-requires c =
-    let a = c.args in
-    let good = sym (rw (to_z-of_z w64 a.a c.ranges.a, to_z-of_z w64 a.b c.ranges.b) at c.in_ok-band.ensures) in
-    unsigned-limits _ _ _ _ _ _ good
-
-pub returns-in_err-band : goal.returns-in_err-band
-unfolding Horizontal.scan
-returns-in_err-band c =
-    let a = c.args in
-    let bad = sym (rw (to_z-of_z w64 a.a c.ranges.a, to_z-of_z w64 a.b c.ranges.b) at c.in_err-band.ensures) in
-    rw (passed_up _ _ c.from_residual.ensures) (scan-bad _ _ _ _ _ _ _ _ _ _ bad refl)
 
 pub returns : goal.returns
 unfolding Horizontal.scan
-returns c =
-    let a = c.args in
-    let good = sym (rw (to_z-of_z w64 a.a c.ranges.a, to_z-of_z w64 a.b c.ranges.b) at c.in_ok-band.ensures) in
-    unsigned-good a.width a.n a.op a.a a.b _ good _ (entry low_first a.page.now a.width) _ _ _
-    (λ i. field-small a.page.now (i * a.width) a.width (unsigned-limits _ _ _ _ _ _ good).0)
-    c.scan_band.ensures
+returns c = rw (to_z-of_z w64 c.args.a c.ranges.a, to_z-of_z w64 c.args.b c.ranges.b) at c.scan.ensures

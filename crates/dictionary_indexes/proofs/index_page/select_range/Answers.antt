@@ -1,23 +1,18 @@
--- `dictionary_indexes::index_page::scan_range` meets its contract: a page without a fault has its width byte, and
+-- `dictionary_indexes::index_page::select_range` meets its contract: a page without a fault has its width byte, and
 -- the stream behind it is good.
-use mathlib.Core.Path.{refl, ap, ◌∙◌}
+use mathlib.Core.Path.{ap, ◌∙◌}
 use mathlib.Core.List.{List}
 use Prim.Native.Nat.{ℕ}
 use native.Mathlib.Omega.{arith}
 use borrow.Author.Rules.{rules}
-use Rattle.rules.specs.Answer.{accepted}
 use Rattle.compare.specs.Range.{ranged}
 use Rattle.words.specs.Puts.{part_rest}
-use Rattle.bitmaps.specs.ScanEnds.{scanned_is}
 use Rattle.runs_walk.specs.Marked.{marked}
 use Rattle.dictionary_indexes.specs.IndexPage.{good-page, width_of, indexes-marked}
-use Rattle.dictionary_indexes.proofs.index_page.scan_range.Goals as goal
+use Rattle.dictionary_indexes.proofs.index_page.select_range.Goals as goal
 
 pub bounds-page-0 : goal.bounds-page-0
 bounds-page-0 c = (good-page c.args.n c.args.page.now c.requires.2).some
-
-pub overflow_cast-width : goal.overflow_cast-width
-overflow_cast-width c = omega (arith, c.type_inv.page 0)
 
 pub slice_bounds-mark_runs-count : goal.slice_bounds-mark_runs-count
 slice_bounds-mark_runs-count c = omega (arith, (good-page c.args.n c.args.page.now c.requires.2).some)
@@ -33,9 +28,7 @@ mark_runs-requires c =
 pub returns : goal.returns
 returns c =
     let a = c.args in
-    let bits =
     c.mark_runs.ensures
     ∙ ap (λ (l : List ℕ). marked (ranged a.range) (width_of a.page.now) a.n l a.bitmap.now)
     (part_rest a.page.now 1)
-    ∙ indexes-marked (ranged a.range) a.n a.page.now a.bitmap.now c.requires.2 in
-    scanned_is 0 a.n _ _ _ _ refl bits (ap accepted c.counted.ensures)
+    ∙ indexes-marked (ranged a.range) a.n a.page.now a.bitmap.now c.requires.2
