@@ -26,12 +26,9 @@ fn place_few(
         entries.old }
 {
     let mut x = from;
-    let mut u: usize = 0;
-    while u < k {
-        let entry = signed32(x);
-        entries[i + u] = entry;
+    for u in 0..k {
+        entries[i + u] = signed32(x);
         x = stepped(body, (j + u) * w as usize, w, least, x);
-        u += 1;
     }
     x
 }
@@ -54,12 +51,9 @@ fn place_whole(
         entries.old }
 {
     let mut x = from;
-    let mut u: usize = 0;
-    while u < 8 {
-        let entry = signed32(x);
-        entries[i + u] = entry;
+    for u in 0..8 {
+        entries[i + u] = signed32(x);
         x = stepped_in(body, at, u * w, w, least, x);
-        u += 1;
     }
     x
 }
@@ -83,10 +77,9 @@ pub fn place_octet(
         entries.old }
 {
     let at = j / 8 * w as usize;
-    if k == 8 {
-        if at + w as usize + 8 <= body.len() {
-            return place_whole(body, at, w as usize, least, from, entries, i);
-        }
+    if k == 8 && at + w as usize + 8 <= body.len() {
+        place_whole(body, at, w as usize, least, from, entries, i)
+    } else {
+        place_few(body, j, w, k, least, from, entries, i)
     }
-    place_few(body, j, w, k, least, from, entries, i)
 }

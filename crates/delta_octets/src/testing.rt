@@ -24,14 +24,12 @@ fn test_few(body: &[u8], i: usize, w: u32, k: usize, least: u32, from: u32, rang
 {
     let mut bits: u32 = 0;
     let mut x = from;
-    let mut j: usize = 0;
-    while j < k {
+    for j in 0..k {
         bits += (passes(range, x) as u32) << j;
         x = stepped(body, (i + j) * w as usize, w, least, x);
-        j += 1;
     }
     Octet {
-        bits: bits,
+        bits,
         after: x,
     }
 }
@@ -42,10 +40,7 @@ fn passes_above(range: Range, y: u32) -> bool
     ensures { result ≡ ranged range ((y + range.low) % 2 ^ 32) }
 {
     let inside = y <= range.span;
-    if 0 < range.flip {
-        return !inside;
-    }
-    inside
+    if 0 < range.flip { !inside } else { inside }
 }
 
 // Eight entries whose packed numbers begin at byte `at`, where their windows end within the body: nothing
@@ -57,14 +52,12 @@ fn test_whole(body: &[u8], at: usize, w: usize, least: u32, from: u32, range: Ra
 {
     let mut bits: u32 = 0;
     let mut y = wrapping_sub_u32(from, range.low);
-    let mut j: usize = 0;
-    while j < 8 {
+    for j in 0..8 {
         bits += (passes_above(range, y) as u32) << j;
         y = stepped_in(body, at, j * w, w, least, y);
-        j += 1;
     }
     Octet {
-        bits: bits,
+        bits,
         after: wrapping_add_u32(y, range.low),
     }
 }
@@ -84,10 +77,9 @@ pub fn test_octet(
         ≡ octet_of 32 k (ranged range) from (λ j. packed_step least body.now w (i + j)) }
 {
     let at = i / 8 * w as usize;
-    if k == 8 {
-        if at + w as usize + 8 <= body.len() {
-            return test_whole(body, at, w as usize, least, from, range);
-        }
+    if k == 8 && at + w as usize + 8 <= body.len() {
+        test_whole(body, at, w as usize, least, from, range)
+    } else {
+        test_few(body, i, w, k, least, from, range)
     }
-    test_few(body, i, w, k, least, from, range)
 }

@@ -25,7 +25,7 @@ pub loop-u-preserved : goal.loop-u-preserved
 loop-u-preserved c =
     let l = c.loop-u in
     let a = c.args in
-    let z = c.signed32-entry in (
+    let z = c.signed32 in (
       omega arith,
       search rules,
       places-next 32 a.from (λ e. packed_step a.least a.body.now a.w (a.j + e)) a.i

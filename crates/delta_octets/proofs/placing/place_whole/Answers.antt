@@ -5,7 +5,7 @@ use Rattle.delta_octets.specs.Steps.{step_from}
 use Rattle.delta_octets.specs.EntryByEntry.{passed_none}
 use Rattle.delta_octets.specs.TwoWritings.{places, places-none, places-next}
 use Rattle.delta_octets.proofs.placing.place_whole.Goals as goal
-use Rattle.delta_octets.proofs.placing.place_whole.Goals.{After-signed32-entry}
+use Rattle.delta_octets.proofs.placing.place_whole.Goals.{After-signed32}
 
 pub loop-u-init : goal.loop-u-init
 loop-u-init c =
@@ -17,7 +17,7 @@ loop-u-init c =
     )
 
 -- the entry's window ends within the body
-low : (c : After-signed32-entry)
+low : (c : After-signed32)
     → let l = c.loop-u in let a = c.args in l.u * a.w ≤ 7 * a.w
 low c = mul-le-mul_right _ (omega arith)
 
@@ -31,7 +31,7 @@ pub loop-u-preserved : goal.loop-u-preserved
 loop-u-preserved c =
     let l = c.loop-u in
     let a = c.args in
-    let z = c.signed32-entry in (
+    let z = c.signed32 in (
       omega arith,
       search rules,
       places-next 32 a.from (step_from a.least a.body.now a.at a.w) a.i a.entries.now l.u

@@ -1,5 +1,5 @@
 -- `delta_octets::placing::place_whole` meets its contract: an entry more each turn.
-use Rattle.std.proofs.Common.{◌≡◌, ◌-◌, ◌≤◌, length}
+use Rattle.std.proofs.Common.{◌≡◌, ◌≤◌, length}
 use Rattle.delta_octets.specs.Steps.{step_from}
 use Rattle.delta_octets.specs.EntryByEntry.{Passed}
 use Rattle.delta_octets.specs.TwoWritings.{places}
@@ -9,6 +9,3 @@ abbrev pub invariant-loop-u : goal.invariant-loop-u
 invariant-loop-u l =
     (l.u ≤ 8) × (length l.entries ≡ length l.initial.entries)
     × Passed (places 32) 32 l.from (step_from l.least l.body l.at l.w) l.i l.initial.entries l.u l.x l.entries
-
-abbrev pub decreases-loop-u : goal.decreases-loop-u
-decreases-loop-u l = 8 - l.u

@@ -15,9 +15,9 @@ returns-then-range-gt0 c =
     (omega arith) (omega arith) refl in
     rw (lt-ltb _ _ c.if-range-gt0.true) (ap not (within))
 
-pub returns : goal.returns
+pub returns-else-range-gt0 : goal.returns-else-range-gt0
 unfolding ranged
-returns c =
+returns-else-range-gt0 c =
     let within : let a = c.args in
     leb a.y a.range.span
     ≡ inside a.range.low (a.range.low + a.range.span) ((a.y + a.range.low) % 2 ^ 32) = let a = c.args in
