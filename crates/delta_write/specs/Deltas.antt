@@ -1,6 +1,7 @@
 -- Wrapped deltas: place by place, signed numbers of W bits, their least; and that no packed number needs more than
 -- W bits.
-use Rattle.std.specs.Prelude.{◌≡◌, ℕ, zero, suc, ◌+◌, ◌-◌, ◌/◌, ◌^◌, ◌<◌, ◌≤◌, Bool, true, false, cond, ◌||◌, List, [], ◌∷◌, map, length, get_or, take, drop, ℤ, pos, ◌-ℤ◌, int_le, slice_index, slice_index_or, refl}
+use Rattle.std.specs.Prelude.{◌≡◌, ℕ, zero, suc, ◌+◌, ◌-◌, ◌/◌, ◌^◌, ◌<◌, ◌≤◌, Bool, true, false, not, cond, ◌||◌, List, [], ◌∷◌, map, length, get_or, take, drop, ℤ, pos, ◌-ℤ◌, int_le, slice_index, slice_index_or, refl}
+use Rattle.std.specs.Int.{int_min}
 use Rattle.std.proofs.Math.Path.{ap}
 use Rattle.std.proofs.Common.{ap₂, ◌∙◌, pow-suc, add-one, arith, length-drop, pow_pos, length-take-le, drop-cons, get_or-take, get_or-drop}
 use Rattle.rules.specs.Answer.{faulty}
@@ -8,7 +9,7 @@ use Rattle.rules.specs.Signed.{wrapped, Within, gap}
 use Rattle.rules.specs.DeltaWriter.{deltas, least_from, least, above_least, any_wide, wide_fault}
 use Rattle.words.specs.Joined.{Small}
 use Rattle.packed_entries.specs.NoneTooLarge.{large_of}
-use Rattle.signed.specs.Order.{le_z-refl, le_z_trans, le_z_total}
+use Rattle.signed.specs.Order.{le_z-refl, le_z_trans, le_z_total, not_le_z}
 use Rattle.signed.specs.Remainders.{wrapped-within}
 use Rattle.signed.specs.Gaps.{gap_lt}
 
@@ -114,6 +115,20 @@ pub least_more : (zs : List ℤ) (z : ℤ) (i m : ℕ) → i < length zs → 0 <
 least_more zs z i m h some =
     let e : m ≡ suc (m - 1) = omega arith in
     ap (λ (n : ℕ). least_from z (take n (drop i zs))) e ∙ rw (drop-cons zs i (pos 0) h, add-one)
+
+-- the lesser, as the library's `min` takes it
+int_min_lesser : (a b : ℤ) → int_min a b ≡ cond (int_le a b) a b
+int_min_lesser a b = rw (not_le_z b a) (go (int_le a b))
+  where
+    go : (t : Bool) → cond (not t) b a ≡ cond t a b
+    go true = refl
+    go false = refl
+
+pub least_min : (zs : List ℤ) (z : ℤ) (i m : ℕ) → i < length zs → 0 < m
+    → least_from z (take m (drop i zs))
+    ≡ least_from (int_min z (slice_index_or zs i (pos 0))) (take (m - 1) (drop (i + 1) zs))
+least_min zs z i m h some =
+    rw (int_min_lesser z (slice_index_or zs i (pos 0))) (least_more zs z i m h some)
 
 module _ (W : ℕ) (some : 0 < W) where
   from-within : (z : ℤ) (zs : List ℤ) → Within W z → AllWithin W zs → Within W (least_from z zs)

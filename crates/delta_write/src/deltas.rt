@@ -1,5 +1,5 @@
 // The wrapped deltas of entries, the least of some, and how far each is above it.
-ghost use Rattle.std.specs.Prelude.{◌≡◌, ◌+◌, ◌<◌, ◌≤◌, true, length, take, drop, pos, if◌then◌else◌, int_le, slice_index_or};
+ghost use Rattle.std.specs.Prelude.{◌≡◌, ◌+◌, ◌<◌, ◌≤◌, true, length, take, drop, pos, int_le, slice_index_or};
 ghost use Rattle.rules.specs.Bits.{put};
 ghost use Rattle.rules.specs.Signed.{gap, zigzag_of};
 ghost use Rattle.rules.specs.DeltaWriter.{deltas, least, above_least};
@@ -18,26 +18,14 @@ fn delta_at(entries: &[i32], i: usize) -> i32
     signed32(wrapping_sub_u32(to, from))
 }
 
-// The lesser of two, as signed numbers.
-fn lesser(a: i32, b: i32) -> i32
-    ensures { result ≡ (if int_le a b then a else b) }
-{
-    if a <= b {
-        return a;
-    }
-    b
-}
-
 // The least of the k deltas from delta `from` on.
 fn least_of(entries: &[i32], from: usize, k: usize) -> i32
     requires { (0 < k) × (from + k < length entries.now) × (length entries.now ≤ 16384) }
     ensures { result ≡ least (take k (drop from (deltas 32 entries.now))) }
 {
     let mut least = delta_at(entries, from);
-    let mut i: usize = 1;
-    while i < k {
-        least = lesser(least, delta_at(entries, from + i));
-        i += 1;
+    for i in 1..k {
+        least = least.min(delta_at(entries, from + i));
     }
     least
 }
@@ -59,10 +47,8 @@ fn put_above(entries: &[i32], from: usize, k: usize, smallest: i32, numbers: &mu
         ≡ put numbers.old 0
         (above_least (take k (drop from (deltas 32 entries.now)))) }
 {
-    let mut i: usize = 0;
-    while i < k {
+    for i in 0..k {
         numbers[i] = above(delta_at(entries, from + i), smallest);
-        i += 1;
     }
 }
 

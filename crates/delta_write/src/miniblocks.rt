@@ -30,10 +30,8 @@ pub fn bodies_size(numbers: &[u32]) -> usize
     ensures { result ≡ length (bodies 4 32 numbers.now) }
 {
     let mut size: usize = 0;
-    let mut j: usize = 0;
-    while j < 4 {
+    for j in 0..4 {
         size += 4 * width_at(numbers, j) as usize;
-        j += 1;
     }
     size
 }
@@ -43,10 +41,8 @@ pub fn put_widths(numbers: &[u32], page: &mut [u8], at: usize)
     requires { (length numbers.now ≡ 128) × (at + 4 ≤ length page.old) }
     ensures { page.new ≡ put page.old at (widths 4 32 numbers.now) }
 {
-    let mut j: usize = 0;
-    while j < 4 {
+    for j in 0..4 {
         page[at + j] = width_at(numbers, j) as u8;
-        j += 1;
     }
 }
 
@@ -59,12 +55,10 @@ pub fn put_bodies(numbers: &[u32], page: &mut [u8], at: usize) -> usize
     ensures next { result ≡ at + length (bodies 4 32 numbers.now) }
 {
     let mut next = at;
-    let mut j: usize = 0;
-    while j < 4 {
+    for j in 0..4 {
         let w = width_at(numbers, j);
         pack_part(numbers, 32 * j, 32, w, page, next);
         next += 4 * w as usize;
-        j += 1;
     }
     next
 }

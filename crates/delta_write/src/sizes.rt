@@ -9,7 +9,6 @@ use crate::deltas::put_numbers;
 use crate::miniblocks::bodies_size;
 use crate::numbers::zigzag;
 use varints::writing::size_of;
-use words::counts::min;
 
 // The first value as a zigzag number: 0 for no entries.
 pub fn first_of(entries: &[i32]) -> u32
@@ -48,11 +47,9 @@ pub fn page_size(entries: &[i32]) -> usize
     ensures few { result < 4294967296 }
 {
     let mut size = header_size(entries);
-    let mut from: usize = 0;
-    while from + 1 < entries.len() {
-        let k = min(128, entries.len() - 1 - from);
-        size += block_size(entries, from, k);
-        from += 128;
+    let deltas = entries.len().saturating_sub(1);
+    for from in (0..deltas).step_by(128) {
+        size += block_size(entries, from, (deltas - from).min(128));
     }
     size
 }

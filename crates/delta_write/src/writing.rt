@@ -9,7 +9,6 @@ use crate::deltas::put_numbers;
 use crate::miniblocks::{put_bodies, put_widths};
 use crate::sizes::first_of;
 use varints::writing::put_number;
-use words::counts::min;
 
 // The header; the next place is given.
 fn put_header(entries: &[i32], page: &mut [u8]) -> usize
@@ -48,10 +47,8 @@ pub fn put_page(entries: &[i32], page: &mut [u8])
         ≡ put page.old 0 (DeltaWriter.page 32 entries.now) }
 {
     let mut at = put_header(entries, page);
-    let mut from: usize = 0;
-    while from + 1 < entries.len() {
-        let k = min(128, entries.len() - 1 - from);
-        at = put_block(entries, from, k, page, at);
-        from += 128;
+    let deltas = entries.len().saturating_sub(1);
+    for from in (0..deltas).step_by(128) {
+        at = put_block(entries, from, (deltas - from).min(128), page, at);
     }
 }
