@@ -28,10 +28,7 @@ fn test_few(body: &[u8], i: usize, w: u32, k: usize, least: u32, from: u32, rang
         bits += (passes(range, x) as u32) << j;
         x = stepped(body, (i + j) * w as usize, w, least, x);
     }
-    Octet {
-        bits,
-        after: x,
-    }
+    Octet { bits, after: x }
 }
 
 // Does the range select the entry that is y above its low end.

@@ -2,8 +2,9 @@
 -- W bits.
 use Rattle.std.specs.Prelude.{◌≡◌, ℕ, zero, suc, ◌+◌, ◌-◌, ◌/◌, ◌^◌, ◌<◌, ◌≤◌, Bool, true, false, not, cond, ◌||◌, List, [], ◌∷◌, map, length, get_or, take, drop, ℤ, pos, ◌-ℤ◌, int_le, slice_index, slice_index_or, refl}
 use Rattle.std.specs.Int.{int_min}
+use Rattle.std.specs.List.{fold, range_with_len}
 use Rattle.std.proofs.Math.Path.{ap}
-use Rattle.std.proofs.Common.{ap₂, ◌∙◌, pow-suc, add-one, arith, length-drop, pow_pos, length-take-le, drop-cons, get_or-take, get_or-drop}
+use Rattle.std.proofs.Common.{sym, ap₂, ◌∙◌, pow-suc, add-one, arith, length-drop, pow_pos, length-take-le, drop-cons, get_or-take, get_or-drop}
 use Rattle.rules.specs.Answer.{faulty}
 use Rattle.rules.specs.Signed.{wrapped, Within, gap}
 use Rattle.rules.specs.DeltaWriter.{deltas, least_from, least, above_least, any_wide, wide_fault}
@@ -129,6 +130,16 @@ pub least_min : (zs : List ℤ) (z : ℤ) (i m : ℕ) → i < length zs → 0 < 
     ≡ least_from (int_min z (slice_index_or zs i (pos 0))) (take (m - 1) (drop (i + 1) zs))
 least_min zs z i m h some =
     rw (int_min_lesser z (slice_index_or zs i (pos 0))) (least_more zs z i m h some)
+
+pub least_fold : (zs : List ℤ) (from : ℕ) (z : ℤ) (i m : ℕ) → from + i + m ≤ length zs
+    → fold (λ (least : ℤ) (j : ℕ). int_min least (slice_index_or zs (from + j) (pos 0))) z (range_with_len i m)
+    ≡ least_from z (take m (drop (from + i) zs))
+least_fold zs from z i zero h = refl
+least_fold zs from z i (suc m) h =
+    let one : from + i + 1 ≡ from + (i + 1) = omega arith in
+    let sub : suc m - 1 ≡ m = omega arith in
+    least_fold zs from (int_min z (slice_index_or zs (from + i) (pos 0))) (i + 1) m (omega arith)
+    ∙ sym (rw (one, sub) at (least_min zs z (from + i) (suc m) (omega arith) (omega arith)))
 
 module _ (W : ℕ) (some : 0 < W) where
   from-within : (z : ℤ) (zs : List ℤ) → Within W z → AllWithin W zs → Within W (least_from z zs)

@@ -23,11 +23,8 @@ fn least_of(entries: &[i32], from: usize, k: usize) -> i32
     requires { (0 < k) × (from + k < length entries.now) × (length entries.now ≤ 16384) }
     ensures { result ≡ least (take k (drop from (deltas 32 entries.now))) }
 {
-    let mut least = delta_at(entries, from);
-    for i in 1..k {
-        least = least.min(delta_at(entries, from + i));
-    }
-    least
+    let first = delta_at(entries, from);
+    (1..k).fold(first, |least, i| least.min(delta_at(entries, from + i)))
 }
 
 // How far a delta is above one that is not greater: the wrapped difference, since 32 bits hold it.

@@ -14,10 +14,10 @@ use varints::writing::size_of;
 pub fn first_of(entries: &[i32]) -> u32
     ensures { result ≡ zigzag_of (slice_index_or entries.now 0 (pos 0)) }
 {
-    if entries.len() == 0 {
-        return 0;
+    match entries.first() {
+        Some(first) => zigzag(*first),
+        None => 0,
     }
-    zigzag(entries[0])
 }
 
 // The four numbers: block size, miniblocks per block, count, first value; at most 5 bytes each.

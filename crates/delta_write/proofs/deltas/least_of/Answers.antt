@@ -1,36 +1,32 @@
--- `delta_write::deltas::least_of` meets its contract: the least of the deltas passed goes on with those still to
--- come.
-use Rattle.std.proofs.Common.{◌≡◌, ◌+◌, ◌-◌, sym, ◌∙◌, arith, w32, to_z}
+-- `delta_write::deltas::least_of` meets its contract: the fold goes over the deltas after the first.
+use Rattle.std.proofs.Common.{rules, ◌≡◌, ℕ, ◌+◌, ◌-◌, ℤ, get_or, pos, refl, sym, ap, ◌∙◌, arith, List, [], ◌∷◌, to_z, of_z, w32}
+use Rattle.std.specs.Int.{int_min}
+use Rattle.std.specs.List.{fold, range_with_len}
+use Rattle.std.proofs.lemmas.Fn.{fold_over}
+use Rattle.std.proofs.lemmas.Iterator.{YieldsList-from_range}
+use Rattle.std.proofs.lemmas.Grind.{fold-append}
+use Rattle.std.proofs.iter.Yields.{nat_range_steps}
 use Rattle.rules.specs.DeltaWriter.{deltas}
 use Rattle.signed.proofs.Signs.{kept}
-use Rattle.delta_write.specs.Deltas.{length-deltas, least_first, least_min}
+use Rattle.delta_write.specs.Deltas.{length-deltas, least_first, least_fold}
 use Rattle.delta_write.proofs.deltas.least_of.Goals as goal
-
-pub loop-i-init : goal.loop-i-init
-loop-i-init c =
-    let a = c.args in
-    let ds = deltas 32 a.entries.now in
-    let first = kept w32 c.delta_at-least.result (record { sfits = c.delta_at-least.type_inv })
-    ∙ c.delta_at-least.ensures in
-    rw first (least_first ds a.from a.k (omega (arith, length-deltas 32 a.entries.now)) c.requires.0)
-
-pub loop-i-preserved : goal.loop-i-preserved
-loop-i-preserved c =
-    let l = c.loop-i in
-    let a = c.args in
-    let ds = deltas 32 a.entries.now in
-    let next = kept w32 c.delta_at.result (record { sfits = c.delta_at.type_inv }) ∙ c.delta_at.ensures in
-    let found = kept w32 c.min-least.result (record { sfits = c.min-least.type_inv })
-    ∙ rw next at c.min-least.ensures.value in
-    let more =
-    least_min ds (to_z w32 l.least-bits) (a.from + l.i) (a.k - l.i)
-    (omega (arith, length-deltas 32 a.entries.now)) (omega arith) in
-    let left : a.k - l.i - 1 ≡ a.k - (l.i + 1) = omega arith in
-    let place : a.from + l.i + 1 ≡ a.from + (l.i + 1) = omega arith in
-    l.invariant ∙ more ∙ rw (left, place, found)
 
 pub returns : goal.returns
 returns c =
     let a = c.args in
-    let none : a.k - c.loop-i.i ≡ 0 = omega arith in
-    sym (c.loop-i.invariant ∙ rw none)
+    let ds = deltas 32 a.entries.now in
+    let h : ℤ → ℕ → ℤ = λ least i. int_min least (get_or ds (a.from + i) (pos 0)) in
+    let short = length-deltas 32 a.entries.now in
+    let start = kept w32 c.delta_at-first.result (record { sfits = c.delta_at-first.type_inv }) in
+    let first : ℤ = to_z w32 (of_z w32 c.delta_at-first.result) in
+    let all : List ℕ = range_with_len 1 (a.k - 1) in
+    let folded : c.fold.result ≡ fold h first all =
+    fold_over nat_range_steps (λ x. x) _ (λ ys r. r ≡ fold h first ys) _
+    (λ ys x y z f' j k.
+    let one : z ≡ h x y = search rules in
+    (one ∙ ap (λ (v : ℤ). h v y) j ∙ sym (fold-append h first ys (y ∷ [])), search rules))
+    (record { start = 1; end = a.k }) all _ _ (YieldsList-from_range 1 a.k (a.k - 1) refl refl).runs refl
+    c.fold.ensures.ran in
+    kept w32 c.fold.result (record { sfits = c.fold.type_inv }) ∙ folded
+    ∙ rw (start ∙ c.delta_at-first.ensures) (least_fold ds a.from _ 1 (a.k - 1) (omega (arith, short)))
+    ∙ sym (least_first ds a.from a.k (omega (arith, short)) c.requires.0)
