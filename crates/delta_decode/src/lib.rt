@@ -2,8 +2,8 @@
 // specs/.
 #![tactic(auto)]
 
+pub mod blocks;
 pub mod miniblocks;
+pub mod pages;
 pub mod placing;
-pub mod placing_blocks;
 pub mod selecting;
-pub mod selecting_blocks;

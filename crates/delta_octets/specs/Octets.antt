@@ -80,7 +80,7 @@ module _ (W k : ℕ) (test : ℕ → Bool) (x : ℕ) (d : ℕ → ℕ) (r : Octe
     octet_small = rw e (word_fits k 8 (λ j. test (reached W x d j)) few)
 
     -- its bits are written as those of the entries from i on
-    octet-passed : (i : ℕ) (out : List ℕ) → 0 < k → i / 8 < length out
+    pub octet-passed : (i : ℕ) (out : List ℕ) → 0 < k → i / 8 < length out
         → Passed (selects test) W x d i out k r.after (slice_set out (i / 8) r.bits)
     unfolding octet_of
     octet-passed i out some room =

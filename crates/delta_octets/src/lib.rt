@@ -5,3 +5,4 @@
 pub mod placing;
 pub mod steps;
 pub mod testing;
+pub mod writing;

@@ -1,6 +1,7 @@
 -- Width bytes one after another: their fault, and their sum.
 use Rattle.std.specs.Prelude.{◌≡◌, refl, Bool, true, false, cond, List, [], ◌∷◌, ◌++◌, ℕ, zero, suc, ◌+◌, ◌-◌, ◌*◌, ◌<◌, ◌≤◌, ltb, length, take, drop, get_or}
 use Rattle.std.proofs.Common.{sym, ap, ◌∙◌, add_assoc, add-zero, zero-add, add-one, arith, drop_of_length-le, length-drop, drop-cons, take-suc, get_or-drop, lt-ltb, le-ltb, ltb-false}
+use Rattle.std.specs.List.{fold}
 use Prim.Native.Nat.compare
 use Rattle.rules.specs.Answer.{faulty}
 use Rattle.rules.specs.Delta.{width_fault, sum}
@@ -75,6 +76,11 @@ pub sum-next : (page : List ℕ) (at i : ℕ) → at + i < length page
 sum-next page at i h =
     rw (add-one i, take-suc (drop at page) i 0 (simp length-drop (omega arith)), sum_append, get_or-drop)
     (ap (λ (x : ℕ). sum (take i (drop at page)) + x) (add-zero (get_or page (at + i) 0)))
+
+-- added one after another to n
+pub sum_added : (n : ℕ) (s : List ℕ) → fold (λ (a x : ℕ). a + x) n s ≡ n + sum s
+sum_added n [] = omega arith
+sum_added n (b ∷ s) = omega (arith, sum_added (n + b) s)
 
 pub sum_le : (s : List ℕ) (i : ℕ) → ((k : ℕ) → get_or s k 0 < 256) → sum (take i s) ≤ 255 * i
 sum_le s zero bytes = omega arith

@@ -9,22 +9,12 @@ use varints::reading::{fault_of, number_at};
 fn is_shaped(size: u64, minis: u64) -> bool
     ensures { result ≡ shaped size minis }
 {
-    if size < 128 {
-        return false;
-    }
-    if 16384 < size {
-        return false;
-    }
-    if size % 128 != 0 {
-        return false;
-    }
-    if minis == 0 {
-        return false;
-    }
-    if size % minis != 0 {
-        return false;
-    }
-    size / minis % 32 == 0
+    128 <= size
+        && size <= 16384
+        && size % 128 == 0
+        && 0 < minis
+        && size % minis == 0
+        && size / minis % 32 == 0
 }
 
 // Block size, miniblocks per block, count and first value: all four are read before any is judged.

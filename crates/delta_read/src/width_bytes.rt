@@ -31,11 +31,5 @@ pub fn width_sum(page: &[u8], at: usize, need: usize) -> usize
     requires { (need ≤ 16384) × (at + need ≤ length page.now) }
     ensures { result ≡ sum (take need (drop at page.now)) }
 {
-    let mut k: usize = 0;
-    let mut total: usize = 0;
-    while k < need {
-        total += page[at + k] as usize;
-        k += 1;
-    }
-    total
+    page[at..at + need].iter().map(|b| *b as usize).sum()
 }

@@ -26,17 +26,17 @@ returns-in-Unopened c =
     let a = c.args in
     absurd (good-head 32 a.n a.page.now c.requires.2 (sym c.head_at-head.ensures ∙ c.in-Unopened.is))
 
-pub place_blocks-requires : goal.place_blocks-requires
-place_blocks-requires c =
+pub write_blocks-requires : goal.write_blocks-requires
+write_blocks-requires c =
     let h = sym c.head_at-head.ensures ∙ c.in-Opened.is in
-    (omega arith, c.requires.0, head-shaped 32 _ _ h, c.requires.1, blocks-good 32 _ _ c.requires.2 h)
+    (omega arith, c.requires.0, head-shaped 32 _ _ h, omega arith, blocks-good 32 _ _ c.requires.2 h)
 
 pub returns : goal.returns
 returns c =
     let a = c.args in
     let v = c.in-Opened in
     let h = sym c.head_at-head.ensures ∙ v.is in
-    c.place_blocks.ensures
+    c.write_blocks.ensures
     ∙ ap
     (λ (x : ℕ). put a.entries.now 0
     (tabulate a.n

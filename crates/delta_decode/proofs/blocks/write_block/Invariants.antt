@@ -1,0 +1,7 @@
+-- `delta_decode::blocks::write_block` meets its contract: a miniblock more each turn.
+use Rattle.delta_decode.specs.MiniblockDeltas.{Turn}
+use Rattle.delta_decode.proofs.blocks.write_block.Given as goal
+
+abbrev pub invariant-loop-q : goal.invariant-loop-q
+invariant-loop-q g l =
+    Turn (g.T.Writing.write l.writing) 32 l.page l.block l.from l.room l.i l.initial.out l.q l.at l.done l.x l.out
