@@ -4,13 +4,13 @@ use Rattle.delta_octets.specs.Octets.{tested-none, tested-fits, tested-more, tes
 use Rattle.delta_octets.proofs.testing.test_few.Goals as goal
 
 pub loop-j-init : goal.loop-j-init
-loop-j-init c = (omega arith, tested-none _ _ _ _)
+loop-j-init c = tested-none _ _ _ _
 
 pub overflow_add-bits : goal.overflow_add-bits
 overflow_add-bits c =
     let l = c.loop-j in
     record {
-      fits = tested-fits _ _ _ _ l.j l.bits l.x c.passes.result l.invariant.1 (omega arith)
+      fits = tested-fits _ _ _ _ l.j l.bits l.x c.passes.result l.invariant (omega arith)
           c.passes.ensures;
     }
 
@@ -22,14 +22,12 @@ overflow_mul-i c =
 
 pub loop-j-preserved : goal.loop-j-preserved
 loop-j-preserved c =
-    let l = c.loop-j in (
-      omega arith,
-      tested-more _ _ _ _ l.j l.bits l.x c.stepped-x.result c.passes.result l.invariant.1
-          (omega arith) c.passes.ensures c.stepped-x.ensures,
-    )
+    let l = c.loop-j in
+    tested-more _ _ _ _ l.j l.bits l.x c.stepped-x.result c.passes.result l.invariant
+    (omega arith) c.passes.ensures c.stepped-x.ensures
 
 pub returns : goal.returns
 returns c =
     let l = c.loop-j in
     let all : l.j ≡ c.args.k = omega arith in
-    tested_octet _ _ _ _ _ l.bits l.x (rw all at l.invariant.1)
+    tested_octet _ _ _ _ _ l.bits l.x (rw all at l.invariant)

@@ -7,13 +7,13 @@ use Rattle.delta_octets.proofs.testing.test_whole.Goals as goal
 use Rattle.delta_octets.proofs.testing.test_whole.Goals.{After-passes_above}
 
 pub loop-j-init : goal.loop-j-init
-loop-j-init c = (omega arith, tested-none _ _ _ _)
+loop-j-init c = tested-none _ _ _ _
 
 pub overflow_add-bits : goal.overflow_add-bits
 overflow_add-bits c =
     let l = c.loop-j in
     record {
-      fits = tested-fits _ _ _ _ l.j l.bits l.y c.passes_above.result l.invariant.1 (omega arith)
+      fits = tested-fits _ _ _ _ l.j l.bits l.y c.passes_above.result l.invariant (omega arith)
           c.passes_above.ensures;
     }
 
@@ -32,11 +32,9 @@ stepped_in-y-requires c = omega (arith, low c)
 
 pub loop-j-preserved : goal.loop-j-preserved
 loop-j-preserved c =
-    let l = c.loop-j in (
-      omega arith,
-      tested-more _ _ _ _ l.j l.bits l.y c.stepped_in-y.result c.passes_above.result
-          l.invariant.1 (omega arith) c.passes_above.ensures c.stepped_in-y.ensures,
-    )
+    let l = c.loop-j in
+    tested-more _ _ _ _ l.j l.bits l.y c.stepped_in-y.result c.passes_above.result
+    l.invariant (omega arith) c.passes_above.ensures c.stepped_in-y.ensures
 
 pub returns : goal.returns
 returns c =
@@ -45,4 +43,4 @@ returns c =
     let a = c.args in
     let all : l.j ≡ 8 = omega arith in
     octet_above 32 8 (ranged a.range) a.from _ a.range.low _ l.bits l.y _ (sym d.ensures.value)
-    (rw all at l.invariant.1) c.wrapping_add_u32.ensures.value
+    (rw all at l.invariant) c.wrapping_add_u32.ensures.value
