@@ -56,8 +56,8 @@ pub fn write_block<T: Writing>(
     let mut x = from;
     let mut at = block.bodies;
     let mut done: usize = 0;
-    for q in 0..block.need {
-        let w = page[block.widths + q] as u32;
+    for width in &page[block.widths..block.widths + block.need] {
+        let w = *width as u32;
         let k = block.size.min(room - done);
         x = write_mini(writing, &page[at..], w, k, least, x, out, i + done);
         at += block.size / 8 * w as usize;
