@@ -17,6 +17,7 @@ use Rattle.rules.specs.declared.Number.{Number}
 use Rattle.rules.specs.declared.Number.TheVariants.{Read}
 use Rattle.rules.specs.Delta.{Block}
 use Rattle.rules.specs.Delta.Block.{Laid, Unlaid}
+use Rattle.answers.specs.Laws.{passed_up, code_some}
 use Rattle.varints.specs.Places.{next-within}
 use Rattle.varints.specs.Fields.{by_read}
 use Rattle.delta_read.specs.WidthBytes.{widths-there, sum_le}
@@ -27,7 +28,7 @@ pub returns-in_default : goal.returns-in_default
 unfolding block_at
 returns-in_default c =
     let n = c.number_at-least_field in
-    not_read Unlaid _ n.result c.in_default.not-Read n.ensures c.fault_of.ensures
+    not_read Unlaid _ n.result c.in_default.not-Read n.ensures (c.refusal_of.ensures c.in_default.not-Read)
 
 -- the smallest delta was read
 module _ (page : List ℕ) (at : ℕ) {s : Number} {least widths : ℕ} (e : s ≡ number_at 32 page at)
@@ -42,13 +43,12 @@ module _ (page : List ℕ) (at : ℕ) {s : Number} {least widths : ℕ} (e : s �
   on-least minis need m = by_read Unlaid _ (sym e ∙ is)
 
   -- the width bytes have no fault
-  there : (minis need : ℕ) {code : ℕ} → code ≡ width_fault 32 minis need (drop widths page) → code ≡ 0
-      → widths + minis ≤ length page
-  there minis need f fine =
-      omega (arith, on-page, length-drop widths page, widths-there 32 minis need (drop widths page) (sym f ∙ fine))
+  there : (minis need : ℕ) → 0 ≡ width_fault 32 minis need (drop widths page) → widths + minis ≤ length page
+  there minis need fine =
+      omega (arith, on-page, length-drop widths page, widths-there 32 minis need (drop widths page) (sym fine))
 
-pub width_fault-code-requires : goal.width_fault-code-requires
-width_fault-code-requires c = (on-page _ _ c.number_at-least_field.ensures c.in-Read.is, search rules)
+pub judge_widths-requires : goal.judge_widths-requires
+judge_widths-requires c = (on-page _ _ c.number_at-least_field.ensures c.in-Read.is, search rules)
 
 -- a fault of the width bytes is the block's
 unlaid : (h minis need m : ℕ) (page : List ℕ) (at code : ℕ) → (code ≡ 0 → ⊥)
@@ -57,17 +57,17 @@ unfolding laid_at
 unlaid h minis need m page at zero fault = absurd (fault refl)
 unlaid h minis need m page at (suc code) fault = refl
 
-pub returns-then-code-ne0 : goal.returns-then-code-ne0
-returns-then-code-ne0 c =
+pub returns-in_err-judge_widths : goal.returns-in_err-judge_widths
+returns-in_err-judge_widths c =
     let a = c.args in
-    on-least _ _ c.number_at-least_field.ensures c.in-Read.is a.minis a.need a.m
-    (unlaid _ _ _ _ _ _ _ c.if-code-ne0.true ∙ ap (laid_at _ _ _ _ _ _) c.width_fault-code.ensures)
+    rw (passed_up _ _ c.from_residual.ensures)
+    (on-least _ _ c.number_at-least_field.ensures c.in-Read.is a.minis a.need a.m
+    (unlaid _ _ _ _ _ _ _ (code_some _) ∙ ap (laid_at _ _ _ _ _ _) c.in_err-judge_widths.ensures))
 
 pub width_sum-requires : goal.width_sum-requires
 width_sum-requires c =
     let a = c.args in
-    let all = there _ _ c.number_at-least_field.ensures c.in-Read.is a.minis a.need c.width_fault-code.ensures
-    c.if-code-ne0.false in
+    let all = there _ _ c.number_at-least_field.ensures c.in-Read.is a.minis a.need c.in_ok-judge_widths.ensures in
     (omega arith, omega arith)
 
 -- the bodies of a block fit a machine word
@@ -94,8 +94,7 @@ overflow_add-widths c =
     let a = c.args in
     omega (
       arith,
-      there _ _ c.number_at-least_field.ensures c.in-Read.is a.minis a.need c.width_fault-code.ensures
-          c.if-code-ne0.false,
+      there _ _ c.number_at-least_field.ensures c.in-Read.is a.minis a.need c.in_ok-judge_widths.ensures,
     )
 
 pub overflow_sub-page : goal.overflow_sub-page
@@ -103,8 +102,7 @@ overflow_sub-page c =
     let a = c.args in
     omega (
       arith,
-      there _ _ c.number_at-least_field.ensures c.in-Read.is a.minis a.need c.width_fault-code.ensures
-          c.if-code-ne0.false,
+      there _ _ c.number_at-least_field.ensures c.in-Read.is a.minis a.need c.in_ok-judge_widths.ensures,
     )
 
 -- what the definition gives then, by whether all the bodies are there
@@ -124,7 +122,7 @@ module _ (h minis need m : ℕ) (page : List ℕ) (at total : ℕ) (none : width
 pub returns-then-page-widths : goal.returns-then-page-widths
 returns-then-page-widths c =
     let a = c.args in
-    let fine = sym c.width_fault-code.ensures ∙ c.if-code-ne0.false in
+    let fine = sym c.in_ok-judge_widths.ensures in
     on-least _ _ c.number_at-least_field.ensures c.in-Read.is a.minis a.need a.m
     (cut _ _ _ _ _ _ _ fine c.width_sum.ensures (omega arith))
 
@@ -133,8 +131,7 @@ overflow_add-result c =
     let a = c.args in
     omega (
       arith,
-      there _ _ c.number_at-least_field.ensures c.in-Read.is a.minis a.need c.width_fault-code.ensures
-          c.if-code-ne0.false,
+      there _ _ c.number_at-least_field.ensures c.in-Read.is a.minis a.need c.in_ok-judge_widths.ensures,
     )
 
 pub overflow_add-result-2 : goal.overflow_add-result-2
@@ -146,12 +143,12 @@ overflow_add-result-2 c =
       arith,
       small,
       there _ _ c.number_at-least_field.ensures c.in-Read.is a.minis a.need
-          c.width_fault-code.ensures c.if-code-ne0.false,
+          c.in_ok-judge_widths.ensures,
     )
 
 pub returns : goal.returns
 returns c =
     let a = c.args in
-    let fine = sym c.width_fault-code.ensures ∙ c.if-code-ne0.false in
+    let fine = sym c.in_ok-judge_widths.ensures in
     on-least _ _ c.number_at-least_field.ensures c.in-Read.is a.minis a.need a.m
     (laid _ _ _ _ _ _ _ fine c.width_sum.ensures (omega arith))

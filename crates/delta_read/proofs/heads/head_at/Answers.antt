@@ -54,21 +54,21 @@ pub returns-in_default : goal.returns-in_default
 unfolding head_at
 returns-in_default c =
     let s = c.number_at-size_field in
-    not_read Unopened _ s.result c.in_default.not-Read s.ensures c.fault_of.ensures
+    not_read Unopened _ s.result c.in_default.not-Read s.ensures (c.refusal_of.ensures c.in_default.not-Read)
 
 pub returns-in_default-minis_field : goal.returns-in_default-minis_field
 returns-in_default-minis_field c =
     let m = c.number_at-minis_field in
     on-size _ _ c.number_at-size_field.ensures c.in-Read.is
     (not_read Unopened _ m.result c.in_default-minis_field.not-Read m.ensures
-    c.fault_of-in_default-minis_field.ensures)
+    (c.refusal_of-in_default-minis_field.ensures c.in_default-minis_field.not-Read))
 
 pub returns-in_default-count_field : goal.returns-in_default-count_field
 returns-in_default-count_field c =
     let k = c.number_at-count_field in
     on-minis _ _ c.number_at-size_field.ensures c.in-Read.is c.number_at-minis_field.ensures c.in-Read-minis_field.is
     (not_read Unopened _ k.result c.in_default-count_field.not-Read k.ensures
-    c.fault_of-in_default-count_field.ensures)
+    (c.refusal_of-in_default-count_field.ensures c.in_default-count_field.not-Read))
 
 pub returns-in_default-first_field : goal.returns-in_default-first_field
 returns-in_default-first_field c =
@@ -76,26 +76,26 @@ returns-in_default-first_field c =
     on-count _ _ c.number_at-size_field.ensures c.in-Read.is c.number_at-minis_field.ensures c.in-Read-minis_field.is
     c.number_at-count_field.ensures c.in-Read-count_field.is
     (not_read Unopened _ f.result c.in_default-first_field.not-Read f.ensures
-    c.fault_of-in_default-first_field.ensures)
+    (c.refusal_of-in_default-first_field.ensures c.in_default-first_field.not-Read))
 
 -- all four are read: the shape, then the count
 
+pub returns-then-not-is_shaped : goal.returns-then-not-is_shaped
+returns-then-not-is_shaped c =
+    on-first _ _ c.number_at-size_field.ensures c.in-Read.is c.number_at-minis_field.ensures c.in-Read-minis_field.is
+    c.number_at-count_field.ensures c.in-Read-count_field.is c.number_at-first_field.ensures c.in-Read-first_field.is
+    (rw (← c.is_shaped.ensures, c.if-not-is_shaped.true))
+
 pub returns-then-count-n : goal.returns-then-count-n
 returns-then-count-n c =
-    let same : c.in-Read-count_field.count ≡ c.args.n = c.if-count-n.true in
+    let other : c.in-Read-count_field.count ≡ c.args.n → ⊥ = c.if-count-n.true in
     on-first _ _ c.number_at-size_field.ensures c.in-Read.is c.number_at-minis_field.ensures c.in-Read-minis_field.is
     c.number_at-count_field.ensures c.in-Read-count_field.is c.number_at-first_field.ensures c.in-Read-first_field.is
-    (rw (← c.is_shaped.ensures, c.if-is_shaped.true, eq-eqb _ _ same))
-
-pub returns-then-is_shaped : goal.returns-then-is_shaped
-returns-then-is_shaped c =
-    let other : c.in-Read-count_field.count ≡ c.args.n → ⊥ = c.if-count-n.false in
-    on-first _ _ c.number_at-size_field.ensures c.in-Read.is c.number_at-minis_field.ensures c.in-Read-minis_field.is
-    c.number_at-count_field.ensures c.in-Read-count_field.is c.number_at-first_field.ensures c.in-Read-first_field.is
-    (rw (← c.is_shaped.ensures, c.if-is_shaped.true, ne_eqb _ _ other))
+    (rw (← c.is_shaped.ensures, c.if-not-is_shaped.false, ne_eqb _ _ other))
 
 pub returns : goal.returns
 returns c =
+    let same : c.in-Read-count_field.count ≡ c.args.n = c.if-count-n.false in
     on-first _ _ c.number_at-size_field.ensures c.in-Read.is c.number_at-minis_field.ensures c.in-Read-minis_field.is
     c.number_at-count_field.ensures c.in-Read-count_field.is c.number_at-first_field.ensures c.in-Read-first_field.is
-    (rw (← c.is_shaped.ensures, c.if-is_shaped.false))
+    (rw (← c.is_shaped.ensures, c.if-not-is_shaped.false, eq-eqb _ _ same))
