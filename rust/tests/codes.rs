@@ -121,12 +121,12 @@ fn the_package_keeps_the_number_of_a_code_that_it_has_no_name_for() {
     }
 }
 
-/// The number and the words of an arm `NUMBER => say(streams, b"WORDS")`, from what is before and behind `=> say(`.
+/// The number and the words of an arm `NUMBER => b"WORDS"`, from what is before and behind `=>`.
 fn arm<'a>(before: &'a str, behind: &'a str) -> Option<[&'a str; 2]> {
     let number = before.split_whitespace().last()?;
     number.parse::<u32>().ok()?;
-    let words = behind.trim_start().strip_prefix("streams,")?;
-    let words = words.trim_start().strip_prefix("b\"")?;
+    let words = behind.trim_start_matches(|c: char| c.is_whitespace() || c == '{');
+    let words = words.strip_prefix("b\"")?;
     Some([number, words.split_once('"')?.0])
 }
 
@@ -139,7 +139,7 @@ fn sentences() -> Vec<[&'static str; 2]> {
 
 #[test]
 fn the_program_says_what_each_refusal_means() {
-    let parts: Vec<&str> = PROGRAM.split("=> say(").collect();
+    let parts: Vec<&str> = PROGRAM.split("=>").collect();
     let arms = parts.windows(2).filter_map(|pair| arm(pair[0], pair[1]));
     let said: Vec<_> = arms.collect();
     hold("crates/scan_says/src/lib.rt", &said, &sentences());
