@@ -10,7 +10,6 @@ use crate::blocks::write_block;
 use crate::miniblocks::Miniblocks;
 use delta_octets::writing::Writing;
 use delta_read::blocks::{block_at, needed_of};
-use rules::Block;
 
 // The entries of all blocks from `from` on, and the one that may be left after them.
 pub fn write_blocks<T: Writing>(
@@ -39,25 +38,20 @@ pub fn write_blocks<T: Writing>(
     let mut i: usize = 0;
     while 0 < left {
         let need = needed_of(minis, m, left);
-        let block = block_at(page, at, minis, need, m);
-        match block {
-            Block::Laid(least, widths, next) => {
-                let needed = Miniblocks {
-                    least,
-                    widths,
-                    bodies: widths + minis,
-                    need,
-                    size: m,
-                };
-                x = write_block(writing, page, needed, x, left + 1, out, i);
-                i += need * m;
-                left = left.saturating_sub(size);
-                at = next;
-            }
-            Block::Unlaid(_) => {
-                return;
-            }
-        }
+        let Ok(block) = block_at(page, at, minis, need, m) else {
+            return;
+        };
+        let needed = Miniblocks {
+            least: block.least,
+            widths: block.widths,
+            bodies: block.widths + minis,
+            need,
+            size: m,
+        };
+        x = write_block(writing, page, needed, x, left + 1, out, i);
+        i += need * m;
+        left = left.saturating_sub(size);
+        at = block.next;
     }
     if i < n {
         writing.write_one(x, out, i);

@@ -7,7 +7,6 @@ use crate::pages::write_blocks;
 use delta_octets::steps::kept_number;
 use delta_octets::writing::Places;
 use delta_read::heads::head_at;
-use rules::Head;
 
 // The page's n entries, into the first n places.
 pub fn place(page: &[u8], n: usize, entries: &mut [i32])
@@ -18,23 +17,18 @@ pub fn place(page: &[u8], n: usize, entries: &mut [i32])
     if n == 0 {
         return;
     }
-    let head = head_at(page, n);
-    match head {
-        Head::Unopened(_) => {
-            return;
-        }
-        Head::Opened(size, minis, first, at) => {
-            let from = kept_number(first);
-            write_blocks(
-                Places,
-                page,
-                at,
-                size as usize,
-                minis as usize,
-                n,
-                from,
-                entries,
-            );
-        }
-    }
+    let Ok(head) = head_at(page, n) else {
+        return;
+    };
+    let from = kept_number(head.first);
+    write_blocks(
+        Places,
+        page,
+        head.next,
+        head.size as usize,
+        head.minis as usize,
+        n,
+        from,
+        entries,
+    );
 }

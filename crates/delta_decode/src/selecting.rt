@@ -10,7 +10,6 @@ use crate::pages::write_blocks;
 use compare::ranges::Range;
 use delta_octets::steps::raised_number;
 use delta_read::heads::head_at;
-use rules::Head;
 
 // The bitmap of the page's n entries, kept raised.
 pub fn select(page: &[u8], n: usize, range: Range, bitmap: &mut [u8])
@@ -24,23 +23,18 @@ pub fn select(page: &[u8], n: usize, range: Range, bitmap: &mut [u8])
     if n == 0 {
         return;
     }
-    let head = head_at(page, n);
-    match head {
-        Head::Unopened(_) => {
-            return;
-        }
-        Head::Opened(size, minis, first, at) => {
-            let from = raised_number(first);
-            write_blocks(
-                range,
-                page,
-                at,
-                size as usize,
-                minis as usize,
-                n,
-                from,
-                bitmap,
-            );
-        }
-    }
+    let Ok(head) = head_at(page, n) else {
+        return;
+    };
+    let from = raised_number(head.first);
+    write_blocks(
+        range,
+        page,
+        head.next,
+        head.size as usize,
+        head.minis as usize,
+        n,
+        from,
+        bitmap,
+    );
 }

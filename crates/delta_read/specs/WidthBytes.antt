@@ -1,12 +1,12 @@
 -- Width bytes one after another: their fault, and their sum.
-use Rattle.std.specs.Prelude.{◌≡◌, refl, Bool, true, false, cond, List, [], ◌∷◌, ◌++◌, ℕ, zero, suc, ◌+◌, ◌-◌, ◌*◌, ◌<◌, ◌≤◌, ltb, length, take, drop, get_or}
-use Rattle.std.proofs.Common.{sym, ap, ◌∙◌, add_assoc, add-zero, zero-add, add-one, arith, drop_of_length-le, length-drop, drop-cons, take-suc, get_or-drop, lt-ltb, le-ltb, ltb-false}
-use Rattle.std.specs.List.{fold}
+use Rattle.std.specs.Prelude.{◌≡◌, refl, Bool, true, false, cond, ◌||◌, List, [], ◌∷◌, ◌++◌, ℕ, zero, suc, ◌+◌, ◌*◌, ◌<◌, ◌≤◌, ltb, length, take, drop, get_or}
+use Rattle.std.proofs.Common.{sym, ap, add_assoc, add-zero, zero-add, add-one, arith, length-drop, take-suc, get_or-drop, lt-ltb, le-ltb, ltb-false}
+use Rattle.std.specs.List.{fold, list_any}
 use Prim.Native.Nat.compare
 use Rattle.rules.specs.Answer.{faulty}
 use Rattle.rules.specs.Delta.{width_fault, sum}
 
--- ---- their fault, from one byte on
+-- ---- their fault
 
 -- of unneeded ones it is asked only that they are there
 widths_unneeded : (W all : ℕ) (s : List ℕ) → width_fault W all 0 s ≡ faulty (ltb (length s) all) 5
@@ -14,56 +14,18 @@ widths_unneeded W zero s = rw (le-ltb (length s) 0 (omega arith))
 widths_unneeded W (suc all) [] = rw (lt-ltb 0 (suc all) (omega arith))
 widths_unneeded W (suc all) (b ∷ s) = rw (compare.suc-suc (suc (length s)) all) (widths_unneeded W all s)
 
-width-needed : (W all need : ℕ) (b : ℕ) (s : List ℕ) → 0 < need → need ≤ all
-    → width_fault W all need (b ∷ s) ≡ cond (ltb W b) 1 (width_fault W (all - 1) (need - 1) s)
-width-needed W all zero b s wanted few = absurd (omega arith)
-width-needed W zero (suc need) b s wanted few = absurd (omega arith)
-width-needed W (suc all) (suc need) b s wanted few =
-    let e : suc all - 1 ≡ all = omega arith in
-    let f : suc need - 1 ≡ need = omega arith in
-    rw (e, f)
-
--- of `all` bytes that begin at `at`, of which `need` are needed
-module _ (W all need : ℕ) (page : List ℕ) (at : ℕ) where
-  -- the fault of those from byte k on
-  abbrev pub fault_from : ℕ → ℕ
-  fault_from k = width_fault W (all - k) (need - k) (drop (at + k) page)
-
-  pub from_first : width_fault W all need (drop at page) ≡ fault_from 0
-  from_first =
-      let e : at + 0 ≡ at = omega arith in
-      let f : all - 0 ≡ all = omega arith in
-      let g : need - 0 ≡ need = omega arith in
-      rw (e, f, g)
-
-  pub byte_missing : (k : ℕ) → k < all → length page ≤ at + k → fault_from k ≡ 5
-  byte_missing k l h = rw (drop_of_length-le page h) (none-there (all - k) (need - k) (omega arith))
-    where
-      none-there : (m i : ℕ) → 0 < m → width_fault W m i [] ≡ 5
-      none-there zero i some = absurd (omega arith)
-      none-there (suc m) i some = refl
-
-  pub byte_needed : (k : ℕ) → k < need → need ≤ all → at + k < length page
-      → fault_from k ≡ cond (ltb W (get_or page (at + k) 0)) 1 (fault_from (k + 1))
-  byte_needed k wanted few there =
-      let e : all - k - 1 ≡ all - (k + 1) = omega arith in
-      let f : need - k - 1 ≡ need - (k + 1) = omega arith in
-      let g : suc (at + k) ≡ at + (k + 1) = omega arith in
-      rw (drop-cons page (at + k) 0 there, ← e, ← f, ← g)
-      (width-needed W (all - k) (need - k) _ (drop (suc (at + k)) page) (omega arith) (omega arith))
-
-  -- none of those is needed
-  module _ (k : ℕ) (done : need ≤ k) (few : k ≤ all) (there : at + k ≤ length page) where
-    unneeded : fault_from k ≡ faulty (ltb (length page - (at + k)) (all - k)) 5
-    unneeded =
-        let none : need - k ≡ 0 = omega arith in
-        rw (none, ← length-drop (at + k) page) (widths_unneeded W (all - k) (drop (at + k) page))
-
-    pub some-missing : length page - at < all → fault_from k ≡ 5
-    some-missing h = unneeded ∙ rw (lt-ltb (length page - (at + k)) (all - k) (omega arith))
-
-    pub all_there : all ≤ length page - at → fault_from k ≡ 0
-    all_there h = unneeded ∙ rw (le-ltb (length page - (at + k)) (all - k) (omega arith))
+-- in reading order: 1 where one of those that are needed and there is above W, then 5 where one is missing
+pub widths_judged : (W all need : ℕ) (s : List ℕ) → need ≤ all
+    → width_fault W all need s ≡ cond (list_any (ltb W) (take need s)) 1 (faulty (ltb (length s) all) 5)
+widths_judged W all zero s few = widths_unneeded W all s
+widths_judged W zero (suc need) s few = absurd (omega arith)
+widths_judged W (suc all) (suc need) [] few = rw (lt-ltb 0 (suc all) (omega arith))
+widths_judged W (suc all) (suc need) (b ∷ s) few =
+    rw (compare.suc-suc (suc (length s)) all) (go (ltb W b) _ _ _ (widths_judged W all need s (omega arith)))
+  where
+    go : (t wide : Bool) (x y : ℕ) → x ≡ cond wide 1 y → cond t 1 x ≡ cond (t || wide) 1 y
+    go true wide x y e = refl
+    go false wide x y e = e
 
 -- ---- their sum
 

@@ -1,50 +1,51 @@
 // A whole delta page judged.
 ghost use Rattle.std.specs.Prelude.{◌≡◌, true, ◌≤◌};
 ghost use Rattle.rules.specs.Delta.{shaped, blocks_at, read, page_fault};
+ghost use Rattle.rules.specs.Refusals.{fault};
 ghost use Rattle.delta_read.specs.DeltasFault.{deltas_fault};
 
 use crate::blocks::{block_at, needed_of};
 use crate::heads::head_at;
-use rules::{Block, Head};
-use words::counts::left_after;
+use rules::Refusal;
 
-// The first fault of the blocks that hold so many deltas, and of what follows them.
-fn blocks_fault(page: &[u8], from: usize, size: usize, minis: usize, deltas: usize) -> u32
+// The blocks that hold so many deltas, one after another, and that nothing follows them.
+fn judge_blocks(
+    page: &[u8],
+    from: usize,
+    size: usize,
+    minis: usize,
+    deltas: usize,
+) -> Result<(), Refusal>
     requires { (deltas ≤ 16384) × (shaped size minis ≡ true) }
-    ensures { result ≡ deltas_fault (blocks_at 32 size minis deltas deltas page.now from) }
+    ensures { fault result
+        ≡ deltas_fault (blocks_at 32 size minis deltas deltas page.now from) }
 {
     let m = size / minis;
     let mut at = from;
     let mut left = deltas;
     while 0 < left {
         let need = needed_of(minis, m, left);
-        let block = block_at(page, at, minis, need, m);
-        match block {
-            Block::Laid(_, _, next) => {
-                left = left_after(left, size);
-                at = next;
-            }
-            Block::Unlaid(code) => {
-                return code;
-            }
-        }
+        let block = block_at(page, at, minis, need, m)?;
+        left = left.saturating_sub(size);
+        at = block.next;
     }
     if at < page.len() {
-        return 6;
+        return Err(Refusal::InputLeftOver);
     }
-    0
+    Ok(())
 }
 
-// 0, or the code of the first fault in reading order.
-pub fn page_fault(page: &[u8], n: usize) -> u32
+// Header and blocks in reading order: n entries have n - 1 deltas, and none have none.
+pub fn judge_page(page: &[u8], n: usize) -> Result<(), Refusal>
     requires { n ≤ 16384 }
-    ensures { result ≡ page_fault (read 32 n page.now) }
+    ensures { fault result ≡ page_fault (read 32 n page.now) }
 {
-    let head = head_at(page, n);
-    match head {
-        Head::Unopened(code) => code,
-        Head::Opened(size, minis, _, at) => {
-            blocks_fault(page, at, size as usize, minis as usize, left_after(n, 1))
-        }
-    }
+    let head = head_at(page, n)?;
+    judge_blocks(
+        page,
+        head.next,
+        head.size as usize,
+        head.minis as usize,
+        n.saturating_sub(1),
+    )
 }

@@ -1,29 +1,29 @@
 // The width bytes of a block, one for each miniblock.
 ghost use Rattle.std.specs.Prelude.{◌≡◌, ◌+◌, ◌≤◌, length, take, drop};
 ghost use Rattle.rules.specs.Delta.{width_fault, sum};
+ghost use Rattle.rules.specs.Refusals.{fault};
 
 use limits::Signed;
+use rules::Refusal;
 
-// The first fault of the `all` width bytes from `at` on: the first `need` of them, those of needed
-// miniblocks, are judged one by one, and the others need only be there.
-pub fn width_fault(page: &[u8], at: usize, all: usize, need: usize) -> u32
+// The `all` width bytes from `at` on: of the first `need`, those of needed miniblocks, none is above the
+// limit, and the others need only be there.
+pub fn judge_widths(page: &[u8], at: usize, all: usize, need: usize) -> Result<(), Refusal>
     requires { (at ≤ length page.now) × (need ≤ all) }
-    ensures { result ≡ width_fault 32 all need (drop at page.now) }
+    ensures { fault result ≡ width_fault 32 all need (drop at page.now) }
 {
-    let mut k: usize = 0;
-    while k < need {
-        if page.len() - at <= k {
-            return 5;
-        }
-        if Signed::MAX_WIDTH < page[at + k] as u32 {
-            return 1;
-        }
-        k += 1;
+    let widths = &page[at..];
+    if widths
+        .iter()
+        .take(need)
+        .any(|width| Signed::MAX_WIDTH < *width as u32)
+    {
+        return Err(Refusal::WidthAboveLimit);
     }
-    if page.len() - at < all {
-        return 5;
+    if widths.len() < all {
+        return Err(Refusal::InputEndsTooEarly);
     }
-    0
+    Ok(())
 }
 
 // The sum of the `need` width bytes from `at` on.

@@ -4,42 +4,46 @@ ghost use Rattle.rules.specs.Bits.{ceil};
 ghost use Rattle.rules.specs.Answer.{◌then◌, room_fault, scanned};
 ghost use Rattle.rules.specs.Answer.Outcome.{outcome};
 ghost use Rattle.rules.specs.Delta as Delta;
+ghost use Rattle.rules.specs.Refusals.{answer_of};
 ghost use Rattle.compare.specs.Band.{banded};
 
-use answers::{first_fault, refused, room_fault};
-use arguments::{Arguments, signed_arguments_of};
+use answers::judge_room;
+use arguments::signed_arguments_of;
 use bitmaps::counted;
 use compare::bands::Band;
 use compare::signed_ranges::signed_range_of;
 use delta_decode::selecting::select;
-use delta_read::judging::page_fault;
-use rules::Answer;
+use delta_read::judging::judge_page;
+use rules::Refusal;
 
 // By its band: the room and the page are judged, then the bitmap is written and counted.
-fn scan_band(page: &[u8], n: usize, band: Band, bitmap: &mut [u8]) -> Answer
+fn scan_band(page: &[u8], n: usize, band: Band, bitmap: &mut [u8]) -> Result<u32, Refusal>
     requires { n ≤ 16384 }
-    ensures { outcome result bitmap.new
+    ensures { outcome (answer_of result) bitmap.new
         ≡ scanned
         (room_fault (length bitmap.old) (ceil n 8)
         then Delta.page_fault (Delta.read 32 n page.now)) n
         (λ i. banded band (Delta.page_entry 32 (Delta.read 32 n page.now) i))
         bitmap.old }
 {
-    let code = first_fault(room_fault(bitmap.len(), (n + 7) / 8), page_fault(page, n));
-    if code != 0 {
-        return refused(code);
-    }
+    judge_room(bitmap.len(), (n + 7) / 8)?;
+    judge_page(page, n)?;
     select(page, n, signed_range_of(band), bitmap);
-    counted(bitmap, n)
+    Ok(counted(bitmap, n))
 }
 
-pub fn scan(page: &[u8], n: usize, op: u32, a: i64, b: i64, bitmap: &mut [u8]) -> Answer
-    ensures { outcome result bitmap.new
+// How many entries are selected.
+pub fn scan(
+    page: &[u8],
+    n: usize,
+    op: u32,
+    a: i64,
+    b: i64,
+    bitmap: &mut [u8],
+) -> Result<u32, Refusal>
+    ensures { outcome (answer_of result) bitmap.new
         ≡ Delta.scan 32 page.now n op a b bitmap.old }
 {
-    let arguments = signed_arguments_of(n, op, a, b);
-    match arguments {
-        Arguments::Bad(code) => refused(code),
-        Arguments::Good(band) => scan_band(page, n, band, bitmap),
-    }
+    let band = signed_arguments_of(n, op, a, b)?;
+    scan_band(page, n, band, bitmap)
 }

@@ -2,27 +2,22 @@
 ghost use Rattle.std.specs.Prelude.{◌≡◌};
 ghost use Rattle.rules.specs.Answer.Outcome.{outcome};
 ghost use Rattle.rules.specs.DeltaWriter as DeltaWriter;
+ghost use Rattle.rules.specs.Refusals.{answer_of};
 
-use answers::{accepted, refused, room_fault};
+use answers::judge_room;
 use delta_write::sizes::page_size;
 use delta_write::writing::put_page;
-use limits::signed_fault;
-use rules::Answer;
+use limits::judge_signed;
+use rules::Refusal;
 
-// No miniblock needs more than 32 bits, so 17 is never given.
-pub fn pack(entries: &[i32], page: &mut [u8]) -> Answer
-    ensures { outcome result page.new
+// How many bytes the page has. No miniblock needs more than 32 bits, so 17 is never given.
+pub fn pack(entries: &[i32], page: &mut [u8]) -> Result<u32, Refusal>
+    ensures { outcome (answer_of result) page.new
         ≡ DeltaWriter.pack 32 entries.now page.old }
 {
-    let limits = signed_fault(entries.len());
-    if limits != 0 {
-        return refused(limits);
-    }
+    judge_signed(entries.len())?;
     let size = page_size(entries);
-    let code = room_fault(page.len(), size);
-    if code != 0 {
-        return refused(code);
-    }
+    judge_room(page.len(), size)?;
     put_page(entries, page);
-    accepted(size as u32)
+    Ok(size as u32)
 }

@@ -3,26 +3,21 @@ ghost use Rattle.std.specs.Prelude.{◌≡◌};
 ghost use Rattle.rules.specs.Bits.Order.{low_first};
 ghost use Rattle.rules.specs.Answer.Outcome.{outcome};
 ghost use Rattle.rules.specs.Horizontal as Horizontal;
+ghost use Rattle.rules.specs.Refusals.{answer_of};
 
-use answers::{accepted, refused};
-use limits::unsigned_fault;
-use packed_entries::judging::entries_fault;
-use rules::Answer;
+use limits::judge_unsigned;
+use packed_entries::judging::judge_entries;
+use rules::Refusal;
 
-pub fn pack(entries: &[u32], width: u32, page: &mut [u8]) -> Answer
-    ensures { outcome result page.new
+// How many bytes the page has.
+pub fn pack(entries: &[u32], width: u32, page: &mut [u8]) -> Result<u32, Refusal>
+    ensures { outcome (answer_of result) page.new
         ≡ Horizontal.pack low_first entries.now width page.old }
 {
     let n = entries.len();
-    let limits = unsigned_fault(width, n);
-    if limits != 0 {
-        return refused(limits);
-    }
+    judge_unsigned(width, n)?;
     let bytes = (n * width as usize + 7) / 8;
-    let code = entries_fault(entries, width, page.len(), bytes);
-    if code != 0 {
-        return refused(code);
-    }
+    judge_entries(entries, width, page.len(), bytes)?;
     packed_entries::packing::pack(entries, width, page);
-    accepted(bytes as u32)
+    Ok(bytes as u32)
 }

@@ -2,12 +2,12 @@
 ghost use Rattle.std.specs.Prelude.{◌≡◌, ◌+◌, ◌*◌, ◌≤◌, ◌<◌, length};
 ghost use Rattle.rules.specs.Bits.{put, tabulate};
 ghost use Rattle.rules.specs.Answer.Outcome.{outcome};
+ghost use Rattle.rules.specs.Refusals.{answer_of};
 ghost use Rattle.rules.specs.Vertical as Vertical;
 
-use answers::{accepted, refused};
-use limits::unsigned_fault;
-use packed_entries::judging::entries_fault;
-use rules::Answer;
+use limits::judge_unsigned;
+use packed_entries::judging::judge_entries;
+use rules::Refusal;
 use vertical_scan::groups::entries_in_group;
 use vertical_turn::packing::pack_group;
 
@@ -35,20 +35,15 @@ fn pack_groups(entries: &[u32], w: usize, words: &mut [u64])
     }
 }
 
-pub fn pack(entries: &[u32], width: u32, words: &mut [u64]) -> Answer
-    ensures { outcome result words.new
+// How many words the planes have.
+pub fn pack(entries: &[u32], width: u32, words: &mut [u64]) -> Result<u32, Refusal>
+    ensures { outcome (answer_of result) words.new
         ≡ Vertical.pack entries.now width words.old }
 {
     let n = entries.len();
-    let limits = unsigned_fault(width, n);
-    if limits != 0 {
-        return refused(limits);
-    }
+    judge_unsigned(width, n)?;
     let need = (n + 63) / 64 * width as usize;
-    let code = entries_fault(entries, width, words.len(), need);
-    if code != 0 {
-        return refused(code);
-    }
+    judge_entries(entries, width, words.len(), need)?;
     pack_groups(entries, width as usize, words);
-    accepted(need as u32)
+    Ok(need as u32)
 }

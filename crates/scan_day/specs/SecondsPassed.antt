@@ -1,12 +1,13 @@
 -- What is kept of the seconds passed: how many, how many of them selected, the first and the last of these, and how
 -- many of each cell.
 use Rattle.std.specs.Prelude.{◌≡◌, Bool, true, false, cond, ◌&&◌, List, eqb, ltb, get_or, set}
-use Rattle.std.proofs.Common.{sym, ap, ◌∙◌, eq-eqb, ne_eqb}
+use Rattle.std.proofs.Common.{Option, None, Some, sym, ap, ◌∙◌, eq-eqb, ne_eqb}
 use Prim.Native.Nat.{ℕ, zero, suc, ◌+◌, ◌-◌, ◌/◌, ◌^◌, ◌≤◌, ◌<◌, min}
 use native.Mathlib.Omega.{arith}
 use Rattle.std.proofs.lemmas.Bool.Decides.{nat_tests}
 use Rattle.rules.specs.Bits.{flag, bit_at}
 use Rattle.rules.specs.Bits.Order.{low_first}
+use Rattle.scan_day.specs.declared.passing.Ends.{Ends}
 use Rattle.scan_day.specs.declared.passing.Passed.{Passed}
 
 -- one more, where 64 bits have room for it
@@ -17,23 +18,27 @@ pub more-saturates : (x : ℕ) → x < 2 ^ 64 → min (x + 1) (2 ^ 64 - 1) ≡ m
 more-saturates x fits = grind (arith, nat_tests)
 
 abbrev pub fresh : Passed
-fresh = record { read = 0; count = 0; first = 0; last = 0; lost = 0 }
+fresh = record { read = 0; count = 0; ends = None; lost = 0 }
 
 abbrev pub losing : Passed → Passed
 losing p =
-    record { read = p.read; count = p.count; first = p.first; last = p.last; lost = more p.lost }
+    record { read = p.read; count = p.count; ends = p.ends; lost = more p.lost }
 
 abbrev pub reading : Passed → Passed
 reading p =
-    record { read = more p.read; count = p.count; first = p.first; last = p.last; lost = p.lost }
+    record { read = more p.read; count = p.count; ends = p.ends; lost = p.lost }
+
+-- the first selected second, where another one is selected
+abbrev pub first_of : ℕ → Option Ends → ℕ
+first_of s None = s
+first_of s (Some ends) = ends.first
 
 abbrev pub selecting : ℕ → Passed → Passed
 selecting s p =
     record {
       read = p.read;
       count = more p.count;
-      first = cond (eqb p.count 0) s p.first;
-      last = s;
+      ends = Some record { first = first_of s p.ends; last = s };
       lost = p.lost;
     }
 

@@ -16,14 +16,20 @@ pub const DAYS: usize = 195;
 
 pub const CELLS: usize = 14040;
 
+// The first selected second and the last.
+#[derive(Clone, Copy)]
+pub struct Ends {
+    pub first: usize,
+    pub last: usize,
+}
+
 #[derive(Clone, Copy, Default)]
 pub struct Passed {
     // seconds of pages that were answered
     pub read: usize,
-    // those selected
+    // those selected, and the ends of them, if there are any
     pub count: usize,
-    pub first: usize,
-    pub last: usize,
+    pub ends: Option<Ends>,
     // pages refused or not read
     pub lost: usize,
 }
@@ -52,11 +58,16 @@ impl Passed {
     fn selects(self, second: usize) -> Passed
         ensures { result ≡ selecting second self }
     {
-        let first = if self.count == 0 { second } else { self.first };
+        let first = match self.ends {
+            Some(ends) => ends.first,
+            None => second,
+        };
         Passed {
             count: self.count.saturating_add(1),
-            first,
-            last: second,
+            ends: Some(Ends {
+                first,
+                last: second,
+            }),
             ..self
         }
     }

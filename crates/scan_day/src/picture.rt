@@ -15,12 +15,12 @@ pub fn sentence(day: u32, passed: Passed) -> Line
     if passed.read == 0 {
         return Line::new().words(b"no second was read");
     }
-    if passed.count == 0 {
+    let Some(ends) = passed.ends else {
         return Line::new()
             .words(b"none of ")
             .number(passed.read as u64)
             .words(b" seconds selected");
-    }
+    };
     let line = Line::new()
         .number(passed.count as u64)
         .words(b" of ")
@@ -28,9 +28,9 @@ pub fn sentence(day: u32, passed: Passed) -> Line
     let from = clock(
         line.words(b" seconds selected, the first at "),
         day,
-        passed.first,
+        ends.first,
     );
-    clock(from.words(b", the last at "), day, passed.last)
+    clock(from.words(b", the last at "), day, ends.last)
 }
 
 // How many of the column's seconds, which are those from `from` to before `end`, lie in a cell.

@@ -41,7 +41,8 @@ fn behind_time(line: Line, may_go_on: bool) -> Line
 // The line of a stretch; the column begins on a day, and may have several.
 pub fn stretch(has_days: bool, day: u32, stretch: Stretch, may_end_later: bool) -> Line
     ensures { held result
-        ≡ laid [] (stretch_of has_days day stretch.first stretch.behind stretch.may_begin_earlier may_end_later) }
+        ≡ laid []
+        (stretch_of has_days day stretch.first stretch.behind stretch.may_begin_earlier may_end_later) }
 {
     let Stretch {
         first,

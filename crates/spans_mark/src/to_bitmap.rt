@@ -3,45 +3,38 @@ ghost use Rattle.std.specs.Prelude.{◌≡◌, not, ◌%◌, eqb, length};
 ghost use Rattle.rules.specs.Bits.{ceil};
 ghost use Rattle.rules.specs.Answer.{faulty, ◌then◌, count_fault, room_fault};
 ghost use Rattle.rules.specs.Answer.Outcome.{outcome};
+ghost use Rattle.rules.specs.Refusals.{fault, answer_of};
 ghost use Rattle.rules.specs.Spans as Spans;
 
 use crate::judging::is_misplaced;
 use crate::marking::mark;
-use answers::{accepted, refused, room_fault};
-use limits::signed_fault;
-use rules::Answer;
+use answers::judge_room;
+use limits::judge_signed;
+use rules::Refusal;
 
 // Everything is judged before a bit is written.
-fn fault(list: &[u32], n: usize, places: usize) -> u32
-    ensures { result
+fn judge_list(list: &[u32], n: usize, places: usize) -> Result<(), Refusal>
+    ensures { fault result
         ≡ (count_fault n then faulty (not (eqb (length list.now % 2) 0)) 5
         then room_fault places (ceil n 8)
         then faulty (Spans.misplaced n 0 list.now) 18) }
 {
-    let limits = signed_fault(n);
-    if limits != 0 {
-        return limits;
-    }
+    judge_signed(n)?;
     if list.len() % 2 != 0 {
-        return 5;
+        return Err(Refusal::InputEndsTooEarly);
     }
-    let room = room_fault(places, (n + 7) / 8);
-    if room != 0 {
-        return room;
-    }
+    judge_room(places, (n + 7) / 8)?;
     if is_misplaced(list, n) {
-        return 18;
+        return Err(Refusal::SpansMisplaced);
     }
-    0
+    Ok(())
 }
 
-pub fn to_bitmap(list: &[u32], n: usize, bitmap: &mut [u8]) -> Answer
-    ensures { outcome result bitmap.new
+// How many entries the list covers.
+pub fn to_bitmap(list: &[u32], n: usize, bitmap: &mut [u8]) -> Result<u32, Refusal>
+    ensures { outcome (answer_of result) bitmap.new
         ≡ Spans.to_bitmap list.now n bitmap.old }
 {
-    let code = fault(list, n, bitmap.len());
-    if code != 0 {
-        return refused(code);
-    }
-    accepted(mark(list, n, bitmap))
+    judge_list(list, n, bitmap.len())?;
+    Ok(mark(list, n, bitmap))
 }

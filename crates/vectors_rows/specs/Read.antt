@@ -28,5 +28,7 @@ decides_read answer places entries counted begun is begins =
     let number : Bool = eqb answer.number (length entries) in
     Decides-like (counted && begun) (λ h. (h.0.0, h.0.1, h.1)) (λ h. ((h.0, h.1), h.2))
     (Decides-and {P = (answer.code ≡ 0) × (answer.number ≡ length entries)} {Q = Begins places entries} counted begun
-    (rw is (Decides-and (eqb answer.code 0) number (Decides-eqb answer.code 0) (Decides-eqb answer.number (length entries))))
+    (rw is
+    (Decides-and (eqb answer.code 0) number (Decides-eqb answer.code 0)
+    (Decides-eqb answer.number (length entries))))
     begins)

@@ -12,4 +12,5 @@ returns g c =
     let begun = c.begins-is_begun.result in
     let both : c.told.result ≡ (counted && begun) = search rules in
     Decides-at c.told.result (counted && begun) both
-    (decides_read a.answer a.places.now a.published.now counted begun c.accepted-is_counted.ensures c.begins-is_begun.ensures)
+    (decides_read a.answer a.places.now a.published.now counted begun c.accepted-is_counted.ensures
+    c.begins-is_begun.ensures)

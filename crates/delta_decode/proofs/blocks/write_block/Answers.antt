@@ -74,6 +74,5 @@ returns g c =
     let a = c.args in
     let all : l.width-index ≡ a.block.need = omega (arith, all_widths c.requires.0) in
     let p =
-    turn_end (g.T.Writing.write a.writing) 32 a.page.now a.block a.from a.room a.i a.out.now
-    (rw all at l.invariant) in
+    turn_end (g.T.Writing.write a.writing) 32 a.page.now a.block a.from a.room a.i a.out.now (rw all at l.invariant) in
     record { entry = p.entry; wrote = p.wrote }

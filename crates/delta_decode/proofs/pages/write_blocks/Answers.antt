@@ -1,6 +1,6 @@
 -- `delta_decode::pages::write_blocks` meets its contract: a block more each turn, and then the entry that may be
 -- left.
-use mathlib.Core.Path.{◌≡◌, ◌∙◌}
+use mathlib.Core.Path.{◌≡◌}
 use Prim.Native.Nat.{◌+◌, ◌/◌}
 use native.Mathlib.Omega.{arith}
 use Rattle.delta_read.specs.Shapes.{shape}
@@ -25,8 +25,8 @@ needed_of-need-requires g c =
     let sh = shape _ _ c.requires.2 in
     omega (arith, c.loop-left.invariant.rest)
 
-pub block_at-block-requires : goal.block_at-block-requires
-block_at-block-requires g c =
+pub block_at-requires : goal.block_at-requires
+block_at-requires g c =
     let a = c.args in
     let sh = shape _ _ c.requires.2 in
     omega (arith, c.needed_of-need.ensures, needed_le a.minis (a.size / a.minis) c.loop-left.left)
@@ -35,8 +35,7 @@ pub overflow_add-needed : goal.overflow_add-needed
 overflow_add-needed g c =
     let l = c.loop-left in
     let a = c.args in
-    let laid = block_is a.size a.minis l.left a.page.now l.at c.needed_of-need.ensures c.block_at-block.ensures
-    ∙ c.in-Laid.is in
+    let laid = block_is a.size a.minis l.left a.page.now l.at c.needed_of-need.ensures c.in-Ok.ensures in
     omega (arith, (judged 32 a.size a.minis l.left a.page.now l.at _ _ _ (shape _ _ c.requires.2) laid).within)
 
 pub overflow_add-left : goal.overflow_add-left
@@ -46,8 +45,7 @@ pub write_block-x-requires : goal.write_block-x-requires
 write_block-x-requires g c =
     let l = c.loop-left in
     let a = c.args in
-    let laid = block_is a.size a.minis l.left a.page.now l.at c.needed_of-need.ensures c.block_at-block.ensures
-    ∙ c.in-Laid.is in
+    let laid = block_is a.size a.minis l.left a.page.now l.at c.needed_of-need.ensures c.in-Ok.ensures in
     let p = l.invariant in
     let here : 0 + l.i ≡ l.i = omega arith in (
       rw c.needed_of-need.ensures
@@ -85,7 +83,7 @@ loop-left-preserved g c =
     let a = c.args in
     let e = c.needed_of-need.ensures in
     let s = c.write_block-x.ensures in
-    let laid = block_is a.size a.minis l.left a.page.now l.at e c.block_at-block.ensures ∙ c.in-Laid.is in
+    let laid = block_is a.size a.minis l.left a.page.now l.at e c.in-Ok.ensures in
     rw (c.saturating_sub-left.ensures, e)
     (pass-next (g.T.Writing.write a.writing) 32 a.page.now a.size a.minis a.n a.from _ a.out.now
     (shape _ _ c.requires.2) c.loop-left-test.true l.invariant
@@ -93,15 +91,14 @@ loop-left-preserved g c =
     (record { entry = rw e at s.entry; wrote = rw e at s.wrote }))
 
 -- a good page has no block that is refused
-pub returns-in-Unlaid : goal.returns-in-Unlaid
-returns-in-Unlaid g c =
+pub returns-in_default : goal.returns-in_default
+returns-in_default g c =
     let l = c.loop-left in
     let a = c.args in
     absurd
     (never
     (refused c.loop-left-test.true l.invariant.comes
-    (block_is a.size a.minis l.left a.page.now l.at c.needed_of-need.ensures c.block_at-block.ensures
-    ∙ c.in-Unlaid.is)))
+    (block_is a.size a.minis l.left a.page.now l.at c.needed_of-need.ensures c.in_default.ensures)))
 
 -- the entry that is left has room
 pub write_one-requires : goal.write_one-requires

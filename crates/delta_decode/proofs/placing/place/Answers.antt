@@ -21,27 +21,27 @@ returns-then-n-eq0 c =
     ∙ ap (λ (k : ℕ). put a.entries.now 0 (tabulate k (page_entry 32 (read 32 a.n a.page.now))))
     (sym c.if-n-eq0.true)
 
-pub returns-in-Unopened : goal.returns-in-Unopened
-returns-in-Unopened c =
+pub returns-in_default : goal.returns-in_default
+returns-in_default c =
     let a = c.args in
-    absurd (good-head 32 a.n a.page.now c.requires.2 (sym c.head_at-head.ensures ∙ c.in-Unopened.is))
+    absurd (good-head 32 a.n a.page.now c.requires.2 (sym c.in_default.ensures))
 
 pub write_blocks-requires : goal.write_blocks-requires
 write_blocks-requires c =
-    let h = sym c.head_at-head.ensures ∙ c.in-Opened.is in
+    let h = sym c.in-Ok.ensures in
     (omega arith, c.requires.0, head-shaped 32 _ _ h, omega arith, blocks-good 32 _ _ c.requires.2 h)
 
 pub returns : goal.returns
 returns c =
     let a = c.args in
-    let v = c.in-Opened in
-    let h = sym c.head_at-head.ensures ∙ v.is in
+    let v = c.in-Ok.head in
+    let h = sym c.in-Ok.ensures in
     c.write_blocks.ensures
     ∙ ap
     (λ (x : ℕ). put a.entries.now 0
     (tabulate a.n
     (λ i. signed 32
-    (reached 32 x (step 32 (deltas_of (blocks_at 32 v.size v.minis (a.n - 1) (a.n - 1) a.page.now v.at))) i))))
+    (reached 32 x (step 32 (deltas_of (blocks_at 32 v.size v.minis (a.n - 1) (a.n - 1) a.page.now v.next))) i))))
     c.kept_number-from.ensures
     ∙ ap (put a.entries.now 0)
     (tabulate-ext a.n _ _ (λ i l. signed-page 32 a.n a.page.now c.requires.2 h (omega arith) i))

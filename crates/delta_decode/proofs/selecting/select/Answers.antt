@@ -23,14 +23,14 @@ returns-then-n-eq0 c =
     let F : ℕ → Bool = λ i. ranged a.range (raised 32 (page_entry 32 (read 32 a.n a.page.now) i)) in
     bitmap-none a.bitmap.now 0 F ∙ ap (λ (k : ℕ). put a.bitmap.now 0 (bitmap k F)) (sym c.if-n-eq0.true)
 
-pub returns-in-Unopened : goal.returns-in-Unopened
-returns-in-Unopened c =
+pub returns-in_default : goal.returns-in_default
+returns-in_default c =
     let a = c.args in
-    absurd (good-head 32 a.n a.page.now c.requires.2 (sym c.head_at-head.ensures ∙ c.in-Unopened.is))
+    absurd (good-head 32 a.n a.page.now c.requires.2 (sym c.in_default.ensures))
 
 pub write_blocks-requires : goal.write_blocks-requires
 write_blocks-requires c =
-    let h = sym c.head_at-head.ensures ∙ c.in-Opened.is in (
+    let h = sym c.in-Ok.ensures in (
       omega arith,
       c.requires.0,
       head-shaped 32 _ _ h,
@@ -41,14 +41,14 @@ write_blocks-requires c =
 pub returns : goal.returns
 returns c =
     let a = c.args in
-    let v = c.in-Opened in
-    let h = sym c.head_at-head.ensures ∙ v.is in
+    let v = c.in-Ok.head in
+    let h = sym c.in-Ok.ensures in
     c.write_blocks.ensures
     ∙ ap
     (λ (x : ℕ). put a.bitmap.now 0
     (bitmap a.n
     (λ i. ranged a.range
-    (reached 32 x (step 32 (deltas_of (blocks_at 32 v.size v.minis (a.n - 1) (a.n - 1) a.page.now v.at))) i))))
+    (reached 32 x (step 32 (deltas_of (blocks_at 32 v.size v.minis (a.n - 1) (a.n - 1) a.page.now v.next))) i))))
     c.raised_number-from.ensures
     ∙ ap (put a.bitmap.now 0)
     (bitmap-ext a.n (λ i l. ap (ranged a.range) (raised-page 32 a.n a.page.now c.requires.2 h i)))

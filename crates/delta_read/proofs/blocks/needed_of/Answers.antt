@@ -3,10 +3,6 @@ use borrow.Author.Rules.{rules}
 use Rattle.rules.specs.Delta.{needed}
 use Rattle.delta_read.proofs.blocks.needed_of.Goals as goal
 
-pub returns-then-minis-all : goal.returns-then-minis-all
-unfolding needed
-returns-then-minis-all c = search rules
-
 pub returns : goal.returns
 unfolding needed
 returns c = search rules

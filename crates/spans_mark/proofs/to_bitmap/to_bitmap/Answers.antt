@@ -1,20 +1,20 @@
 -- `spans_mark::to_bitmap::to_bitmap` meets its contract: without a fault the entries covered are marked, and counted.
-use mathlib.Core.Path.{sym, ap, ◌∙◌}
+use mathlib.Core.Path.{sym, ap}
 use native.Mathlib.Omega.{arith}
 use borrow.Author.Tests.{eqb-true, not-false}
 use Rattle.rules.specs.Answer.{accepted}
 use Rattle.rules.specs.Spans.{to_bitmap}
-use Rattle.answers.specs.Laws.{then_zero, not-faulty, within_count, has_room, refused_is, accepted_is}
+use Rattle.answers.specs.Laws.{then_zero, not-faulty, within_count, has_room, passed_up, refused_call, accepted_is}
 use Rattle.spans_mark.proofs.to_bitmap.to_bitmap.Goals as goal
 
-pub returns-then-code-ne0 : goal.returns-then-code-ne0
+pub returns-in_err-judge_list : goal.returns-in_err-judge_list
 unfolding to_bitmap
-returns-then-code-ne0 c =
-    refused_is _ _ _ _ _ _ c.refused.ensures (sym c.fault-code.ensures) c.if-code-ne0.true
+returns-in_err-judge_list c =
+    rw (passed_up _ _ c.from_residual.ensures) (refused_call _ _ _ _ _ (sym c.in_err-judge_list.ensures))
 
 pub mark-requires : goal.mark-requires
 mark-requires c =
-    let x = then_zero _ _ (sym c.fault-code.ensures ∙ c.if-code-ne0.false) in
+    let x = then_zero _ _ (sym c.in_ok-judge_list.ensures) in
     let y = then_zero _ _ x.1 in
     let z = then_zero _ _ y.1 in (
       within_count _ x.0,
@@ -26,5 +26,4 @@ mark-requires c =
 pub returns : goal.returns
 unfolding to_bitmap
 returns c =
-    accepted_is _ _ _ _ _ _ (sym c.fault-code.ensures ∙ c.if-code-ne0.false)
-    (c.accepted.ensures ∙ ap accepted c.mark.ensures.count) c.mark.ensures.wrote
+    accepted_is _ _ _ _ _ _ (sym c.in_ok-judge_list.ensures) (ap accepted c.mark.ensures.count) c.mark.ensures.wrote

@@ -1,6 +1,7 @@
 -- `unpack::dictionary_lookup::look_up_runs` meets its contract. The loop's invariant: going on from here leaves
 -- what the pass leaves.
 -- Each run has an entry, so fewer are left with each turn.
+use mathlib.Core.Path.{ap}
 use mathlib.Core.Path.{refl, sym, ◌∙◌}
 use native.Mathlib.Omega.{arith}
 use borrow.Author.Rules.{rules}
