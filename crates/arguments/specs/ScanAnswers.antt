@@ -1,14 +1,14 @@
 -- From the arguments' judgement to the answer of a scan, for every layout and every kind of column.
 use Rattle.std.proofs.Math.Path.{◌≡◌, refl, ap}
 use Rattle.std.proofs.Common.{sym, ◌∙◌, arith}
-use Rattle.std.specs.Prelude.{Bool, List, ℤ, pos, Option, Some, None}
-use Prim.Native.Nat.{ℕ, zero, suc, ◌≤◌, ◌<◌}
+use Rattle.std.specs.Prelude.{Bool, List, ℤ, Option, Some, None}
+use Prim.Native.Nat.{ℕ, zero, suc, ◌<◌}
 use Rattle.rules.specs.Comparison.{holds}
 use Rattle.rules.specs.Signed.{Within}
-use Rattle.rules.specs.Answer.{◌then◌, count_fault, limit_fault, operator_fault, refusal, scanned}
+use Rattle.rules.specs.Answer.{◌then◌, operator_fault, refusal, scanned}
 use Rattle.rules.specs.Answer.Outcome.{outcome}
 use Rattle.rules.specs.declared.Answer.{Answer}
-use Rattle.answers.specs.Laws.{then_none, then_found, within_count, within-limits, refused_is}
+use Rattle.answers.specs.Laws.{then_none, then_found, refused_is}
 use Rattle.bitmaps.specs.ScanEnds.{scanned-ext}
 use Rattle.compare.specs.Band.{banded, band_of}
 use Rattle.compare.specs.Operators.{holds-band}
@@ -72,32 +72,3 @@ module _ (limits op : ℕ) (a b : ℤ) where
       λ i l. holds-band op a b (entries i) band (small i l) known.chosen in
       done ∙ ap (λ (code : ℕ). scanned code n (λ i. banded band (entries i)) before) (sym (known.none rest))
       ∙ scanned-ext _ n _ _ before same
-
--- ---- unsigned columns: entries of at most 32 bits
-
-module _ (w n op : ℕ) (a b : ℤ) (band : Band) (e : arguments_of (limit_fault w n) op a b ≡ Good band) where
-  pub unsigned-limits : (w ≤ 32) × (n ≤ 16384)
-  unsigned-limits = within-limits w n (good_arguments (limit_fault w n) op a b band e).within
-
-  pub unsigned-good : (rest : ℕ) (entries : ℕ → ℕ) (before after : List ℕ) (r : Answer)
-      → ((i : ℕ) → entries i < 4294967296)
-      → outcome r after ≡ scanned rest n (λ i. banded band (pos (entries i))) before
-      → outcome r after
-      ≡ scanned (limit_fault w n then operator_fault op then rest) n (λ i. holds op a b (pos (entries i))) before
-  unsigned-good rest entries before after r small done =
-      scan_good (limit_fault w n) op a b rest n (λ i. pos (entries i)) before after r band e
-      (λ i l. omega (arith, small i)) done
-
--- ---- signed columns: entries of 32 bits
-
-module _ (n op : ℕ) (a b : ℤ) (band : Band) (e : arguments_of (count_fault n) op a b ≡ Good band) where
-  pub signed_limit : n ≤ 16384
-  signed_limit = within_count n (good_arguments (count_fault n) op a b band e).within
-
-  pub signed-good : (rest : ℕ) (entries : ℕ → ℤ) (before after : List ℕ) (r : Answer)
-      → ((i : ℕ) → Within 32 (entries i))
-      → outcome r after ≡ scanned rest n (λ i. banded band (entries i)) before
-      → outcome r after
-      ≡ scanned (count_fault n then operator_fault op then rest) n (λ i. holds op a b (entries i)) before
-  signed-good rest entries before after r small done =
-      scan_good (count_fault n) op a b rest n entries before after r band e (λ i l. omega (arith, small i)) done

@@ -36,6 +36,7 @@ impl<'a> Scannable for DictionaryColumn<'a> {
         signed_arguments_of(n, op, a, b)
     }
 
+    #[tactic(auto, using(scannable::specs::Bounds::limits))]
     fn judge_page(self, n: usize) -> Result<(), Refusal> {
         judge_column(self.dict, self.page, n)
     }
@@ -47,6 +48,7 @@ impl<'a> Scannable for DictionaryColumn<'a> {
 }
 
 // How many entries are selected.
+#[tactic(auto, unfolding(rules::specs::Dictionary::scan))]
 pub fn scan(
     dict: &[u8],
     page: &[u8],

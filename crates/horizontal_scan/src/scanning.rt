@@ -37,6 +37,7 @@ impl<'a> Scannable for HorizontalPage<'a> {
         arguments_of(self.width, n, op, a, b)
     }
 
+    #[tactic(auto, using(scannable::specs::Bounds::limits))]
     fn judge_page(self, n: usize) -> Result<(), Refusal> {
         judge_page(self.page, self.width, n)
     }
@@ -47,6 +48,7 @@ impl<'a> Scannable for HorizontalPage<'a> {
 }
 
 // How many entries are selected.
+#[tactic(auto, unfolding(rules::specs::Horizontal::scan))]
 pub fn scan(
     page: &[u8],
     width: u32,

@@ -34,6 +34,7 @@ impl<'a> Scannable for RunStream<'a> {
         arguments_of(self.width, n, op, a, b)
     }
 
+    #[tactic(auto, using(scannable::specs::Bounds::limits))]
     fn judge_page(self, n: usize) -> Result<(), Refusal> {
         judge_stream(self.page, self.width as usize, n)
     }
@@ -45,6 +46,7 @@ impl<'a> Scannable for RunStream<'a> {
 }
 
 // How many entries are selected.
+#[tactic(auto, unfolding(rules::specs::Runs::scan))]
 pub fn scan(
     page: &[u8],
     width: u32,

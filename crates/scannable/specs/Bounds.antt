@@ -16,3 +16,6 @@ unsigned_bounds w n entry small e =
 pub signed_bounds : (n : ℕ) (entry : ℕ → ℤ) → (n ≤ 16384 → (i : ℕ) → Within 32 (entry i)) → count_fault n ≡ 0
     → Bounded n entry
 signed_bounds n entry small e = let few = within_count n e in (few, λ i. omega (arith, small few i))
+
+-- for the judgement of a page, which asks for them
+pub ruleset limits = (within-limits, within_count)

@@ -76,6 +76,7 @@ impl<'a> Scannable for Planes<'a> {
         arguments_of(self.width, n, op, a, b)
     }
 
+    #[tactic(auto, using(scannable::specs::Bounds::limits))]
     fn judge_page(self, n: usize) -> Result<(), Refusal> {
         judge_page(self.words, self.width, n)
     }
@@ -86,6 +87,7 @@ impl<'a> Scannable for Planes<'a> {
 }
 
 // How many entries are selected.
+#[tactic(auto, unfolding(rules::specs::Vertical::scan))]
 pub fn scan(
     words: &[u64],
     width: u32,
