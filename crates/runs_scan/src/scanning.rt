@@ -28,7 +28,7 @@ impl<'a> Scannable for RunStream<'a> {
 
     ghost entry = { λ s n i. pos (Runs.stream_entry s.width (Runs.read s.width n s.page.now) i) };
 
-    ghost bounds = { λ s n. unsigned_bounds s.width n _ (λ narrow i. entry-small s.width n s.page.now i narrow) };
+    ghost bounds = { λ s n. unsigned_bounds s.width n _ (λ narrow i. entry-small _ n _ i narrow) };
 
     fn judge_arguments(self, n: usize, op: u32, a: i64, b: i64) -> Result<Band, Refusal> {
         arguments_of(self.width, n, op, a, b)

@@ -8,7 +8,8 @@ use Rattle.answers.specs.Laws.{within_count, within-limits}
 abbrev pub Bounded : ℕ → (ℕ → ℤ) → Type 0
 Bounded n entry = (n ≤ 16384) × ((i : ℕ) → Within 64 (entry i))
 
-pub unsigned_bounds : (w n : ℕ) (entry : ℕ → ℕ) → (w ≤ 32 → (i : ℕ) → entry i < 4294967296) → limit_fault w n ≡ 0
+pub unsigned_bounds : (w n : ℕ) (entry : ℕ → ℕ) → (w ≤ 32 → (i : ℕ) → entry i < 4294967296)
+    → limit_fault w n ≡ 0
     → Bounded n (λ i. pos (entry i))
 unsigned_bounds w n entry small e =
     let within = within-limits w n e in (within.1, λ i. omega (arith, small within.0 i))

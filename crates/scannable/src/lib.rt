@@ -18,10 +18,10 @@ use compare::bands::Band;
 use rules::Refusal;
 
 pub trait Scannable: Copy {
-    // The limits of its kind of column, for n entries, by the number of the refusal.
+    // The number of the refusal that n entries have by the limits of the kind of column, or 0.
     ghost limits: { Self → ℕ → ℕ };
 
-    // What is wrong with the page within those limits.
+    // Likewise by what is wrong with the page itself, within those limits.
     ghost page_fault: { Self → ℕ → ℕ };
 
     // Entry i of n.
@@ -40,10 +40,12 @@ pub trait Scannable: Copy {
         ensures { bitmap.new
             ≡ put bitmap.old 0 (Bitmap.bitmap n (λ i. banded band (entry self n i))) };
 
+    // Within the limits no page is too long, nor an entry too large for a comparison.
     ghost bounds: { (page : Self) (n : ℕ) → limits page n ≡ 0 → Bounded n (entry page n) };
 }
 
-// How many of n entries are selected: arguments, room and page are judged in this order before a byte is written.
+// How many of n entries are selected: arguments, room and page are judged, in this order, before a byte is
+// written.
 pub fn scan<P: Scannable>(
     page: P,
     n: usize,

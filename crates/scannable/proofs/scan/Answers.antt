@@ -1,5 +1,5 @@
--- `scannable::scan` meets its contract: the arguments' faults first, then the room's and the page's, then the band's
--- bitmap and its count.
+-- `scannable::scan` meets its contract: the arguments' faults first, then the room's and the page's, then the
+-- band's bitmap and its count.
 use Rattle.std.proofs.Common.{◌≡◌, refl, sym, ◌∙◌, arith, ℕ, ℤ, length, FitsSigned, to_z, of_z, w64}
 use mir.ValLaws.{to_z-of_z}
 use Rattle.answers.specs.Laws.{then_judged, then_refused, passed_up, has_room, refused_call}
@@ -21,7 +21,8 @@ known limits op a b band fits also judged =
 pub returns-in_err-band : goal.returns-in_err-band
 returns-in_err-band g c =
     let a = c.args in
-    let bad = sym (rw (to_z-of_z w64 a.a c.ranges.a, to_z-of_z w64 a.b c.ranges.b) at c.in_err-band.ensures) in
+    let bad =
+    sym (rw (to_z-of_z w64 a.a c.ranges.a, to_z-of_z w64 a.b c.ranges.b) at c.in_err-band.ensures) in
     rw (passed_up _ _ c.from_residual.ensures) (scan-bad _ _ _ _ _ _ _ _ _ _ bad refl)
 
 pub overflow_add-n : goal.overflow_add-n

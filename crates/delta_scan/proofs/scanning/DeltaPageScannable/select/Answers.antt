@@ -5,8 +5,12 @@ use Rattle.delta_decode.specs.EntriesInRange.{selected-banded}
 use Rattle.delta_scan.proofs.scanning.DeltaPageScannable.select.Goals as goal
 
 pub select-requires : goal.select-requires
-select-requires c =
-    (within_count _ c.requires.0, c.requires.2, c.requires.1, rw c.signed_range_of.ensures (signed-range-whole _).fits)
+select-requires c = (
+  within_count _ c.requires.0,
+  c.requires.2,
+  c.requires.1,
+  rw c.signed_range_of.ensures (signed-range-whole _).fits,
+)
 
 pub returns : goal.returns
 returns c =
