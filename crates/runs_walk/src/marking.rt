@@ -4,13 +4,12 @@ ghost use Rattle.rules.specs.Bits.{ceil, word, field};
 ghost use Rattle.rules.specs.Bits.Order.{low_first};
 ghost use Rattle.words.specs.Appended.{appended};
 ghost use Rattle.compare.specs.Range.{ranged, UsableRange};
-ghost use Rattle.runs_walk.specs.Marked.{marked};
+ghost use Rattle.runs_walk.specs.Marked.{marks, marks-values, marked};
 
+use crate::walking::{RunWriting, write_runs};
 use compare::ranges::{Range, passes};
-use rules::Run;
 use runs_mark::packed::mark_packed;
 use runs_mark::same::mark_same;
-use runs_read::plain::run_at;
 
 // A repeated run's m entries, all selected or none of them, from bit p on: the bitmap's part from the run's
 // first byte is lent on.
@@ -45,33 +44,32 @@ fn mark_body(
     mark_packed(&page[start..end], w, m, range, &mut bitmap[from..], p % 8);
 }
 
+// A run sets the bits of the entries that the range selects.
+impl RunWriting for Range {
+    type Out = u8;
+
+    ghost each = { 8 };
+
+    ghost Sound = { UsableRange };
+
+    ghost write = { λ range. marks (ranged range) };
+
+    ghost of_values = { λ range. marks-values (ranged range) };
+
+    fn write_same(self, value: u32, m: usize, out: &mut [u8], i: usize) {
+        mark_repeated(out, i, m, passes(self, value));
+    }
+
+    fn write_packed(self, page: &[u8], start: usize, w: usize, m: usize, out: &mut [u8], i: usize) {
+        mark_body(page, start, w, m, self, out, i);
+    }
+}
+
 // All runs, in turn; a fault ends the pass.
 pub fn mark_runs(page: &[u8], w: usize, n: usize, range: Range, bitmap: &mut [u8])
     requires { (w ≤ 32) × (n ≤ 16384) × (ceil n 8 ≤ length bitmap.old) × UsableRange range }
     ensures { bitmap.new
         ≡ marked (ranged range) w n page.now bitmap.old }
 {
-    let mut at: usize = 0;
-    let mut i: usize = 0;
-    while i < n {
-        let Ok(run) = run_at(page, at, w, n - i) else {
-            return;
-        };
-        match run {
-            Run::Repeated { count, value, next } => {
-                mark_repeated(bitmap, i, count, passes(range, value));
-                i += count;
-                at = next;
-            }
-            Run::Packed {
-                groups,
-                start,
-                next,
-            } => {
-                mark_body(page, start, w, (8 * groups).min(n - i), range, bitmap, i);
-                i += 8 * groups;
-                at = next;
-            }
-        }
-    }
+    write_runs(range, page, w, n, bitmap);
 }

@@ -3,12 +3,11 @@ ghost use Rattle.std.specs.Prelude.{◌≡◌, ◌+◌, ◌*◌, ◌%◌, ◌≤
 ghost use Rattle.rules.specs.Bits.{ceil, field, put, tabulate};
 ghost use Rattle.rules.specs.Bits.Order.{low_first};
 ghost use Rattle.rules.specs.Dictionary.{value};
-ghost use Rattle.runs_walk.specs.Placed.{placed};
+ghost use Rattle.runs_walk.specs.Placed.{places, places-values, placed};
 
 use dictionary_scan::values::value_any;
 use packed_entries::unpacking::unpack;
-use rules::Run;
-use runs_read::plain::run_at;
+use runs_walk::walking::{RunWriting, write_runs};
 
 // The values of the first m indexes of a list, into the first m places.
 fn look_up(dict: &[u8], indexes: &[u32], m: usize, places: &mut [i32])
@@ -79,33 +78,45 @@ fn place_body(
     }
 }
 
+// A run fills the places of its indexes with the values of a dictionary.
+#[derive(Clone, Copy)]
+struct Values<'a> {
+    dict: &'a [u8],
+}
+
+impl<'a> RunWriting for Values<'a> {
+    type Out = i32;
+
+    ghost each = { 1 };
+
+    ghost Sound = { λ values. length values.dict.now % 4 ≡ 0 };
+
+    ghost write = { λ values. places (value values.dict.now) };
+
+    ghost of_values = { λ values. places-values (value values.dict.now) };
+
+    fn write_same(self, index: u32, m: usize, out: &mut [i32], i: usize) {
+        place_same(self.dict, index, out, i, m);
+    }
+
+    fn write_packed(
+        self,
+        page: &[u8],
+        start: usize,
+        w: usize,
+        m: usize,
+        out: &mut [i32],
+        i: usize,
+    ) {
+        place_body(self.dict, page, start, w as u32, out, i, m);
+    }
+}
+
 // All runs, in turn; a fault ends the pass.
 pub fn look_up_runs(dict: &[u8], page: &[u8], w: u32, n: usize, entries: &mut [i32])
     requires { (length dict.now % 4 ≡ 0) × (w ≤ 32) × (n ≤ 16384) × (n ≤ length entries.old) }
     ensures { entries.new
         ≡ placed (value dict.now) w n page.now entries.old }
 {
-    let mut at: usize = 0;
-    let mut i: usize = 0;
-    while i < n {
-        let Ok(run) = run_at(page, at, w as usize, n - i) else {
-            return;
-        };
-        match run {
-            Run::Repeated { count, value, next } => {
-                place_same(dict, value, entries, i, count);
-                i += count;
-                at = next;
-            }
-            Run::Packed {
-                groups,
-                start,
-                next,
-            } => {
-                place_body(dict, page, start, w, entries, i, (8 * groups).min(n - i));
-                i += 8 * groups;
-                at = next;
-            }
-        }
-    }
+    write_runs(Values { dict }, page, w as usize, n, entries);
 }

@@ -2,11 +2,10 @@
 ghost use Rattle.std.specs.Prelude.{◌≡◌, ◌+◌, ◌*◌, ◌≤◌, length};
 ghost use Rattle.rules.specs.Bits.{ceil, field, put, tabulate};
 ghost use Rattle.rules.specs.Bits.Order.{low_first};
-ghost use Rattle.runs_walk.specs.Placed.{placed};
+ghost use Rattle.runs_walk.specs.Placed.{places, places-values, placed};
 
 use packed_entries::unpacking::unpack;
-use rules::Run;
-use runs_read::plain::run_at;
+use runs_walk::walking::{RunWriting, write_runs};
 
 // m equal entries, into the places from place p on.
 fn place_same(entries: &mut [u32], p: usize, m: usize, value: u32)
@@ -27,33 +26,43 @@ fn place_body(page: &[u8], start: usize, w: u32, m: usize, entries: &mut [u32], 
     unpack(&page[start..], w, m, &mut entries[p..]);
 }
 
+// A run fills the places of its entries.
+#[derive(Clone, Copy)]
+struct Places;
+
+impl RunWriting for Places {
+    type Out = u32;
+
+    ghost each = { 1 };
+
+    ghost Sound = { λ _. Unit };
+
+    ghost write = { λ _. places (λ x. x) };
+
+    ghost of_values = { λ _. places-values (λ x. x) };
+
+    fn write_same(self, value: u32, m: usize, out: &mut [u32], i: usize) {
+        place_same(out, i, m, value);
+    }
+
+    fn write_packed(
+        self,
+        page: &[u8],
+        start: usize,
+        w: usize,
+        m: usize,
+        out: &mut [u32],
+        i: usize,
+    ) {
+        place_body(page, start, w as u32, m, out, i);
+    }
+}
+
 // All runs, in turn; a fault ends the pass.
 pub fn place_runs(page: &[u8], w: u32, n: usize, entries: &mut [u32])
     requires { (w ≤ 32) × (n ≤ 16384) × (n ≤ length entries.old) }
     ensures { entries.new
         ≡ placed (λ x. x) w n page.now entries.old }
 {
-    let mut at: usize = 0;
-    let mut i: usize = 0;
-    while i < n {
-        let Ok(run) = run_at(page, at, w as usize, n - i) else {
-            return;
-        };
-        match run {
-            Run::Repeated { count, value, next } => {
-                place_same(entries, i, count, value);
-                i += count;
-                at = next;
-            }
-            Run::Packed {
-                groups,
-                start,
-                next,
-            } => {
-                place_body(page, start, w, (8 * groups).min(n - i), entries, i);
-                i += 8 * groups;
-                at = next;
-            }
-        }
-    }
+    write_runs(Places, page, w as usize, n, entries);
 }
