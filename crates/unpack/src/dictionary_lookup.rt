@@ -21,15 +21,6 @@ fn look_up(dict: &[u8], indexes: &[u32], m: usize, places: &mut [i32])
     }
 }
 
-// A repeated run: m times the value of one index, into the places from place p on.
-fn place_same(dict: &[u8], index: u32, entries: &mut [i32], p: usize, m: usize)
-    requires { (length dict.now % 4 ≡ 0) × (p + m ≤ length entries.old) }
-    ensures { entries.new
-        ≡ put entries.old p (tabulate m (λ _. value dict.now index)) }
-{
-    entries[p..p + m].fill(value_any(dict, index));
-}
-
 // At most 64 packed indexes from byte `from` on, unpacked by groups: their values, into the places from
 // place p on.
 fn place_part(
@@ -53,32 +44,7 @@ fn place_part(
     look_up(dict, &indexes, m, &mut entries[p..]);
 }
 
-// A packed run, whose body begins at byte `start`: the values of its first m indexes, into the places from
-// place p on.
-fn place_body(
-    dict: &[u8],
-    page: &[u8],
-    start: usize,
-    w: u32,
-    entries: &mut [i32],
-    p: usize,
-    m: usize,
-)
-    requires { (length dict.now % 4 ≡ 0) × (w ≤ 32) × (m ≤ 16384)
-        × (start + ceil (m * w) 8 ≤ length page.now) × (p + m ≤ length entries.old) }
-    ensures { entries.new
-        ≡ put entries.old p
-        (tabulate m
-        (λ k. value dict.now (field low_first page.now (8 * start + k * w) w))) }
-{
-    let mut from = start;
-    for i in (0..m).step_by(64) {
-        place_part(dict, page, from, w, entries, p + i, (m - i).min(64));
-        from += 8 * w as usize;
-    }
-}
-
-// A run fills the places of its indexes with the values of a dictionary.
+// Into the places of the indexes, as the values of a dictionary.
 #[derive(Clone, Copy)]
 struct Values<'a> {
     dict: &'a [u8],
@@ -95,8 +61,8 @@ impl<'a> RunWriting for Values<'a> {
 
     ghost of_values = { λ values. places-values (value values.dict.now) };
 
-    fn write_same(self, index: u32, m: usize, out: &mut [i32], i: usize) {
-        place_same(self.dict, index, out, i, m);
+    fn write_same(self, index: u32, m: usize, entries: &mut [i32], i: usize) {
+        entries[i..i + m].fill(value_any(self.dict, index));
     }
 
     fn write_packed(
@@ -105,10 +71,15 @@ impl<'a> RunWriting for Values<'a> {
         start: usize,
         w: usize,
         m: usize,
-        out: &mut [i32],
+        entries: &mut [i32],
         i: usize,
     ) {
-        place_body(self.dict, page, start, w as u32, out, i, m);
+        let mut from = start;
+        for k in (0..m).step_by(64) {
+            let few = (m - k).min(64);
+            place_part(self.dict, page, from, w as u32, entries, i + k, few);
+            from += 8 * w;
+        }
     }
 }
 
