@@ -38,6 +38,8 @@ pub fn answered<R: Env + Files>(
     let mut answered = [0u32; CELLS];
     let mut bitmap = room();
     let column = Column {
+        q,
+        dictionary,
         day: asked.day.unwrap_or(1),
         from: asked.start.unwrap_or(0),
         entries,
@@ -45,9 +47,7 @@ pub fn answered<R: Env + Files>(
     let after = walked(
         system,
         nothing_passed(asked, column),
-        q,
         column,
-        dictionary,
         files,
         &mut bitmap,
         &mut selected,
@@ -77,16 +77,19 @@ fn told_missing<R: Env>(system: &System<R>, span: Span, lost: usize, pages: usiz
     }
 }
 
-// The day and the second of a column's first entry, and how many entries it has.
+// What every page of a column is asked, its dictionary, the day and the second of its first entry, and how
+// many entries it has.
 #[derive(Clone, Copy)]
-struct Column {
+struct Column<'a> {
+    q: Question,
+    dictionary: &'a [u8],
     day: u32,
     from: u32,
     entries: u32,
 }
 
 // Where a column stands of which so many pages are named.
-fn span(column: Column, pages: usize) -> Span {
+fn span(column: Column<'_>, pages: usize) -> Span {
     let from = column.from as usize;
     let end = from + column.entries as usize;
     Span {
@@ -107,7 +110,7 @@ struct SoFar {
     stretches: Listing,
 }
 
-fn nothing_passed(asked: Asked, column: Column) -> SoFar {
+fn nothing_passed(asked: Asked, column: Column<'_>) -> SoFar {
     let end = column.from as usize + column.entries as usize;
     SoFar {
         passed: Passed::new(),
@@ -121,9 +124,7 @@ fn nothing_passed(asked: Asked, column: Column) -> SoFar {
 fn walked<R: Env + Files>(
     system: &System<R>,
     before: SoFar,
-    q: Question,
-    column: Column,
-    dictionary: &[u8],
+    column: Column<'_>,
     files: &[usize],
     bitmap: &mut [u8],
     selected: &mut [u32; CELLS],
@@ -134,9 +135,7 @@ fn walked<R: Env + Files>(
         if system.streams.is_closed() {
             break;
         }
-        so_far = page_answered(
-            system, so_far, q, column, *at, k, dictionary, bitmap, selected, answered,
-        );
+        so_far = page_answered(system, so_far, column, *at, k, bitmap, selected, answered);
     }
     so_far
 }
@@ -145,11 +144,9 @@ fn walked<R: Env + Files>(
 fn page_answered<R: Env + Files>(
     system: &System<R>,
     so_far: SoFar,
-    q: Question,
-    column: Column,
+    column: Column<'_>,
     at: usize,
     k: usize,
-    dictionary: &[u8],
     bitmap: &mut [u8],
     selected: &mut [u32; CELLS],
     answered: &mut [u32; CELLS],
@@ -158,7 +155,14 @@ fn page_answered<R: Env + Files>(
     let start = start_of(k);
     let first = column.from as usize + start;
     let place = (start / 8).min(bitmap.len());
-    if !answering::answered(system, q, dictionary, at, n, &mut bitmap[place..]) {
+    if !answering::answered(
+        system,
+        column.q,
+        column.dictionary,
+        at,
+        n,
+        &mut bitmap[place..],
+    ) {
         return page_lost(system, so_far, column.day, first, first + n);
     }
     let passed = page_passed(

@@ -106,8 +106,8 @@ pub fn page_passed(
         ≡ stretched start (spans_of bitmap.now n) before.going }
 {
     let mut places = [0u32; PLACES];
-    let answer = from_bitmap(bitmap, n, &mut places);
-    let numbers = 2 * (answer.number as usize).min(PLACES / 2);
+    let count = from_bitmap(bitmap, n, &mut places).unwrap_or(0);
+    let numbers = 2 * (count as usize).min(PLACES / 2);
     list_passed(streams, before, day, start, &places[..numbers])
 }
 

@@ -10,12 +10,8 @@ pub fn find(text: &[u8], from: usize, to: usize, byte: u8) -> usize
     ensures low { from ≤ result }
     ensures high { result ≤ to }
 {
-    let mut at = from;
-    while at < to {
-        if text[at] == byte {
-            return at;
-        }
-        at += 1;
+    match text[from..to].iter().position(|b| *b == byte) {
+        Some(k) => from + k,
+        None => to,
     }
-    at
 }

@@ -18,7 +18,8 @@ fn all_planes(words: &[u64], at: usize, w: usize) -> u64
     all
 }
 
-// Is the column as long as its entries, and are its unused lanes 0. Where n fills its last group none is unused.
+// Is the column as long as its entries, and are its unused lanes 0. Where n fills its last group no lane is
+// unused.
 pub fn judge_page(words: &[u64], width: u32, n: usize) -> Result<(), Refusal>
     requires { (width ≤ 32) × (n ≤ 16384) }
     ensures { fault result ≡ page_fault words.now width n }

@@ -6,5 +6,6 @@ use Rattle.cahermisk.proofs.delta.cahermisk_delta_scan.Goals as goal
 pub returns : goal.returns
 returns c =
     let s = c in
-    rw (to_z-of_z w64 s.args.a s.ranges.a, to_z-of_z w64 s.args.b s.ranges.b) at
-    c.scan.ensures
+    rw c.into.ensures
+    (rw (to_z-of_z w64 s.args.a s.ranges.a, to_z-of_z w64 s.args.b s.ranges.b) at
+    c.scan.ensures)

@@ -24,12 +24,6 @@ overflow_mul-result c =
     let few : c.args.n ≤ 16384 = within_count c.args.n none in
     omega (arith, few)
 
-pub overflow_add-result-2 : goal.overflow_add-result-2
-overflow_add-result-2 c =
-    let none : count_fault c.args.n ≡ 0 = sym c.in-Ok.ensures in
-    let few : c.args.n ≤ 16384 = within_count c.args.n none in
-    omega (arith, few)
-
 pub returns-in-Ok : goal.returns-in-Ok
 returns-in-Ok c =
     let none : count_fault c.args.n ≡ 0 = sym c.in-Ok.ensures in

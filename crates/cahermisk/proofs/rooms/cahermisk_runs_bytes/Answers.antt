@@ -20,9 +20,6 @@ overflow_add-result c =
     sym c.in-Ok.ensures in
     let k = within-limits _ _ none in omega arith
 
-pub overflow_add-result-2 : goal.overflow_add-result-2
-overflow_add-result-2 c = search rules
-
 pub overflow_mul-result : goal.overflow_mul-result
 overflow_mul-result c =
     let none : limit_fault c.args.width c.args.n ≡ 0 =

@@ -1,5 +1,5 @@
--- `pack::delta::pack` meets its contract: the faults in their order, of which 17 never arises, then the page of the
--- entries.
+-- `pack::delta::pack` meets its contract: the faults in their order, of which 17 never arises, then the page of
+-- the entries.
 use mathlib.Core.Path.{sym, ap, ◌∙◌}
 use native.Mathlib.Omega.{arith}
 use Rattle.rules.specs.Answer.{accepted}

@@ -50,5 +50,6 @@ overflow_cast-result c =
 pub returns : goal.returns
 unfolding Horizontal.pack
 returns c =
-    accepted_is _ _ _ _ _ _ (then_judged _ _ c.in_ok-judge_unsigned.ensures ∙ sym c.in_ok-judge_entries.ensures)
+    accepted_is _ _ _ _ _ _
+    (then_judged _ _ c.in_ok-judge_unsigned.ensures ∙ sym c.in_ok-judge_entries.ensures)
     (ap accepted (sym (length-packed _ _ _))) c.pack.ensures

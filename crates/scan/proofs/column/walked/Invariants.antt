@@ -1,6 +1,5 @@
--- `scan::column::walked` is safe and ends: each turn leaves fewer pages.
+-- `scan::column::walked` is safe: the bitmap keeps its length.
 use mathlib.Core.Path.{◌≡◌}
-use Prim.Native.Nat.{◌-◌, ◌<◌}
 use lib.ListN.{length}
 use Rattle.scan.proofs.column.walked.Given as goal
 

@@ -1,4 +1,4 @@
--- `spans_list::from_bitmap::from_bitmap` meets its contract: the limit, the bitmap's length, and then the room.
+-- `spans_list::from_bitmap::from_bitmap` meets its contract: the limit, the bitmap's length, then the room.
 use mathlib.Core.Path.{sym, ap, ◌∙◌}
 use mathlib.Core.Bool.{Bool}
 use Prim.Native.Nat.{ℕ, ◌/◌}

@@ -1,10 +1,12 @@
--- `spans_mark::to_bitmap::to_bitmap` meets its contract: without a fault the entries covered are marked, and counted.
+-- `spans_mark::to_bitmap::to_bitmap` meets its contract: without a fault the entries covered are marked, and
+-- counted.
 use mathlib.Core.Path.{sym, ap}
 use native.Mathlib.Omega.{arith}
 use borrow.Author.Tests.{eqb-true, not-false}
 use Rattle.rules.specs.Answer.{accepted}
 use Rattle.rules.specs.Spans.{to_bitmap}
-use Rattle.answers.specs.Laws.{then_zero, not-faulty, within_count, has_room, passed_up, refused_call, accepted_is}
+use Rattle.answers.specs.Laws.{then_zero, not-faulty, within_count, has_room, passed_up}
+use Rattle.answers.specs.Laws.{refused_call, accepted_is}
 use Rattle.spans_mark.proofs.to_bitmap.to_bitmap.Goals as goal
 
 pub returns-in_err-judge_list : goal.returns-in_err-judge_list
@@ -26,4 +28,5 @@ mark-requires c =
 pub returns : goal.returns
 unfolding to_bitmap
 returns c =
-    accepted_is _ _ _ _ _ _ (sym c.in_ok-judge_list.ensures) (ap accepted c.mark.ensures.count) c.mark.ensures.wrote
+    let marked = c.mark.ensures in
+    accepted_is _ _ _ _ _ _ (sym c.in_ok-judge_list.ensures) (ap accepted marked.count) marked.wrote

@@ -1,5 +1,5 @@
--- `vertical_scan::scanning::scan_band` meets its contract: room and column first, then the band's bitmap and its
--- count.
+-- `vertical_scan::scanning::scan_band` meets its contract: room and column first, then the band's bitmap and
+-- its count.
 use mathlib.Core.Path.{◌≡◌, sym, ◌∙◌}
 use lib.ListN.{length}
 use Rattle.answers.specs.Laws.{then_judged, then_refused, passed_up, has_room, refused_call}
@@ -34,5 +34,6 @@ counted-requires c =
 pub returns : goal.returns
 unfolding chosen
 returns c =
-    scanned_call _ c.args.n _ _ _ _ (then_judged _ _ c.in_ok-judge_room.ensures ∙ sym c.in_ok-judge_page.ensures)
-    c.select.ensures c.counted.ensures
+    scanned_call _ c.args.n _ _ _ _
+    (then_judged _ _ c.in_ok-judge_room.ensures ∙ sym c.in_ok-judge_page.ensures) c.select.ensures
+    c.counted.ensures

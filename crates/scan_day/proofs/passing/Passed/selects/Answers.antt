@@ -8,6 +8,6 @@ pub returns : goal.returns
 returns c =
     rw (c.saturating_add.ensures, more-saturates c.args.self.count (search rules))
     (elim c.match-self.branch [
-      in-Some w ↦ rw (w.first-is, w.in-Some.is)
+      | in-Some w ↦ rw (w.first-is, w.in-Some.is)
       | in-None w ↦ rw (w.first-is, w.in-None.is)
     ])
