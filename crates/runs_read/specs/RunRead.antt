@@ -72,18 +72,19 @@ module _ (w left : ℕ) (page : List ℕ) (at : ℕ) where
           (some, fits, refl, n.2, omega arith)
 
 -- by the run as it was given, in a loop over runs
-module _ (w left : ℕ) (page : List ℕ) (at : ℕ) {run : Given.Run} (given : run_of (Ok run) ≡ run_at w left page at) where
-  pub read_repeated : {count value next : ℕ} → run ≡ Found.Repeated count value next
-      → (run_at w left page at ≡ Repeated count value next) × (0 < count) × (count ≤ left)
-  read_repeated {count} {value} {next} is =
-      let q : run_at w left page at ≡ Repeated count value next = sym given ∙ ap run_of (ap Ok is) in
-      let r = ran_repeated w left page at q in
-      (q, r.0, r.1)
+module _ (w left : ℕ) (page : List ℕ) (at : ℕ) {run : Given.Run} (given : run_of (Ok run) ≡ run_at w left page at)
+  where
+    pub read_repeated : {count value next : ℕ} → run ≡ Found.Repeated count value next
+        → (run_at w left page at ≡ Repeated count value next) × (0 < count) × (count ≤ left)
+    read_repeated {count} {value} {next} is =
+        let q : run_at w left page at ≡ Repeated count value next = sym given ∙ ap run_of (ap Ok is) in
+        let r = ran_repeated w left page at q in
+        (q, r.0, r.1)
 
-  pub read_packed : {groups start next : ℕ} → run ≡ Found.Packed groups start next
-      → (run_at w left page at ≡ Packed groups start next) × (0 < groups) × (8 * groups ≤ left + 7)
-      × (start + w * groups ≤ length page)
-  read_packed {groups} {start} {next} is =
-      let q : run_at w left page at ≡ Packed groups start next = sym given ∙ ap run_of (ap Ok is) in
-      let r = ran_packed w left page at q in
-      (q, r.0, r.1, omega arith)
+    pub read_packed : {groups start next : ℕ} → run ≡ Found.Packed groups start next
+        → (run_at w left page at ≡ Packed groups start next) × (0 < groups) × (8 * groups ≤ left + 7)
+        × (start + w * groups ≤ length page)
+    read_packed {groups} {start} {next} is =
+        let q : run_at w left page at ≡ Packed groups start next = sym given ∙ ap run_of (ap Ok is) in
+        let r = ran_packed w left page at q in
+        (q, r.0, r.1, omega arith)
