@@ -1,21 +1,19 @@
 -- Whether some entry of a stream passes a test, found run by run while the stream is judged.
-use Rattle.std.specs.Prelude.{◌≡◌, refl, Bool, false, ◌||◌, List, ℕ, ◌+◌, ◌-◌, ◌*◌, ◌≤◌, ◌<◌, min, get_or, take, drop}
+use Rattle.std.specs.Prelude.{◌≡◌, refl, Bool, false, ◌||◌, List, ℕ, ◌+◌, ◌-◌, ◌*◌, ◌≤◌, ◌<◌, get_or}
 use Rattle.std.proofs.Common.{sym, ap, subst, ◌∙◌, arith}
 use Prim.{tt}
 use Rattle.rules.specs.Answer.{faulty, ◌then◌}
-use Rattle.rules.specs.Bits.{some_below, field, entry}
-use Rattle.rules.specs.Bits.Order.{low_first}
+use Rattle.rules.specs.Bits.{some_below}
 use Rattle.rules.specs.Runs.{run_at, read, stream_fault, stream_entry}
 use Rattle.rules.specs.Runs.Run.{Repeated, Packed, Refused}
 use Rattle.rules.specs.Grammar.{Piece, cut_entries, Cut}
-use Rattle.words.specs.Entries.{field-window, place-within}
 use Rattle.answers.specs.Laws.{then_found, then_none}
 use Rattle.runs_read.specs.Exact.{exact, accepted}
-use Rattle.runs_read.specs.Parts.{body-fits}
 use Rattle.runs_read.specs.RunRead.{Shown, refuses, shown}
 use Rattle.runs_read.specs.TwoPasses.{judge, judge-comes, pass, pass-cut}
 use Rattle.runs_read.specs.Walks.{Comes, on_refused, on_repeated, on_packed}
 use Rattle.runs_walk.specs.Covered.{written, covers}
+use Rattle.runs_walk.specs.CountedTurns.{OfValues}
 use Rattle.words.specs.SomeBelow.{some-ext, some_add, some_same}
 
 -- ---- a pass
@@ -23,6 +21,9 @@ use Rattle.words.specs.SomeBelow.{some-ext, some_add, some_same}
 -- found among the entries before, or among m more
 abbrev pub seeks : (ℕ → Bool) → ℕ → ℕ → (ℕ → ℕ) → Bool → Bool
 seeks test i m value found = found || some_below m (λ k. test (value k))
+
+pub seeks-values : (test : ℕ → Bool) → OfValues (seeks test)
+seeks-values test i m f g found same = ap (λ (t : Bool). found || t) (some-ext m (λ k h. ap test (same k h)))
 
 -- what a pass over a page finds
 unfoldable pub sought : (ℕ → Bool) → ℕ → ℕ → List ℕ → Bool
@@ -45,7 +46,7 @@ sought-read test w n page none = go ((accepted w n page).0 none).0 ((accepted w 
     grows : (i m : ℕ) (f value : ℕ → ℕ) → i + m ≤ n → ((k : ℕ) → k < m → value k ≡ f (i + k))
         → seeks test i m value (holding i f) ≡ holding (i + m) f
     grows i m f value fits e =
-        ap (λ (t : Bool). holding i f || t) (some-ext m (λ k h. ap test (e k h))) ∙ some_add i m (λ k. test (f k))
+        seeks-values test i m value (λ k. f (i + k)) (holding i f) e ∙ some_add i m (λ k. test (f k))
 
     go : (ps : List Piece) → Cut w n page ps
         → pass (written n (seeks test) w) w n page false ≡ some_below n (λ i. test (stream_entry w (read w n page) i))
@@ -55,28 +56,10 @@ sought-read test w n page none = go ((accepted w n page).0 none).0 ((accepted w 
         (λ k h. ap (λ (i : ℕ). get_or (cut_entries w ps) i 0) (omega arith))
         ∙ ap (λ s. some_below n (λ i. test (stream_entry w s i))) (sym ((exact w n page ps).1 cut))
 
--- ---- a turn
-
-module _ (test : ℕ → Bool) where
-  -- a repeated run
-  pub seeks-same : (i m value : ℕ) (found : Bool) {new : Bool} → 0 < m → new ≡ (found || test value)
-      → new ≡ seeks test i m (λ _. value) found
-  seeks-same i m value found h e = e ∙ ap (λ (t : Bool). found || t) (sym (some_same m (test value) h))
-
-  -- a packed run, of the entries as they lie in the page
-  pub seeks-body : (page : List ℕ) (w start groups left i m : ℕ) (found here : Bool) {new : Bool}
-      → m ≡ min (8 * groups) left
-      → here ≡ some_below m (λ k. test (field low_first page (8 * start + k * w) w)) → new ≡ (found || here)
-      → new ≡ seeks test i (min (8 * groups) left) (entry low_first (take (w * groups) (drop start page)) w) found
-  seeks-body page w start groups left i m found here few e f =
-      let fits : m * w ≤ 8 * (w * groups) = body-fits w groups m (omega arith) in
-      f
-      ∙ ap (λ (t : Bool). found || t)
-      (e
-      ∙ some-ext m
-      (λ k l. ap test
-      (sym (field-window page start (w * groups) (k * w) w (omega (arith, place-within w k m l))))))
-      ∙ ap (λ (k : ℕ). seeks test i k (entry low_first (take (w * groups) (drop start page)) w) found) few
+-- a turn by a repeated run
+pub seeks-same : (test : ℕ → Bool) (i m value : ℕ) (found : Bool) {new : Bool} → 0 < m → new ≡ (found || test value)
+    → new ≡ seeks test i m (λ _. value) found
+seeks-same test i m value found h e = e ∙ ap (λ (t : Bool). found || t) (sym (some_same m (test value) h))
 
 -- ---- the code is what judging on from here gives, where i entries of n are covered
 

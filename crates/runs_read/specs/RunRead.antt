@@ -1,11 +1,13 @@
 -- What a run that was read says of the page, case by case.
-use Rattle.std.specs.Prelude.{◌≡◌, List, ℕ, ◌+◌, ◌-◌, ◌*◌, ◌/◌, ◌%◌, ◌^◌, ◌<◌, ◌≤◌, ltb, eqb, length, take, drop}
+use Rattle.std.specs.Prelude.{◌≡◌, List, ℕ, ◌+◌, ◌-◌, ◌*◌, ◌/◌, ◌%◌, ◌^◌, ◌<◌, ◌≤◌, ltb, eqb, length, take, drop, Ok}
 use Rattle.std.proofs.Math.Path.{refl}
-use Rattle.std.proofs.Common.{subst, arith}
+use Rattle.std.proofs.Common.{sym, ap, ◌∙◌, subst, arith}
 use borrow.Author.Tests.{ltb-true, ltb-false, eqb-true, eqb-false}
 use Rattle.rules.specs.Bits.{ceil, number}
 use Rattle.rules.specs.Varint.{number_at}
-use Rattle.rules.specs.Runs.{repeated_at, packed_at, headed, run_at}
+use Rattle.rules.specs.Runs.{repeated_at, packed_at, headed, run_at, run_of}
+use Rattle.rules.specs.declared.Run as Given
+use Rattle.rules.specs.declared.Run.TheVariants as Found
 use Rattle.rules.specs.declared.Number.{Number}
 use Rattle.rules.specs.declared.Number.TheVariants.{Read, Ended, Beyond}
 use Rattle.rules.specs.Runs.{Run}
@@ -68,3 +70,21 @@ module _ (w left : ℕ) (page : List ℕ) (at : ℕ) where
       go (packs h p q odd some fits there) =
           let n = next-within 32 page at h p q in
           (some, fits, refl, n.2, omega arith)
+
+-- by the run as it was given, in a loop over runs
+module _ (w left : ℕ) (page : List ℕ) (at : ℕ) {run : Given.Run} (given : run_of (Ok run) ≡ run_at w left page at)
+  where
+    pub read_repeated : {count value next : ℕ} → run ≡ Found.Repeated count value next
+        → (run_at w left page at ≡ Repeated count value next) × (0 < count) × (count ≤ left)
+    read_repeated {count} {value} {next} is =
+        let q : run_at w left page at ≡ Repeated count value next = sym given ∙ ap run_of (ap Ok is) in
+        let r = ran_repeated w left page at q in
+        (q, r.0, r.1)
+
+    pub read_packed : {groups start next : ℕ} → run ≡ Found.Packed groups start next
+        → (run_at w left page at ≡ Packed groups start next) × (0 < groups) × (8 * groups ≤ left + 7)
+        × (start + w * groups ≤ length page)
+    read_packed {groups} {start} {next} is =
+        let q : run_at w left page at ≡ Packed groups start next = sym given ∙ ap run_of (ap Ok is) in
+        let r = ran_packed w left page at q in
+        (q, r.0, r.1, omega arith)

@@ -1,21 +1,22 @@
 -- The bits that a stream's runs set are the bitmap of its entries.
-use Rattle.std.specs.Prelude.{◌≡◌, refl, Bool, List, ℕ, ◌+◌, ◌*◌, ◌≤◌, ◌<◌, min, get_or, take, drop}
-use Rattle.std.proofs.Common.{sym, ap, ◌∙◌, arith}
-use Rattle.rules.specs.Bits.{word, field, entry, put}
-use Rattle.rules.specs.Bits.Order.{low_first}
+use Rattle.std.specs.Prelude.{◌≡◌, refl, Bool, List, ℕ, ◌+◌, ◌≤◌, ◌<◌, get_or}
+use Rattle.std.proofs.Common.{ap, ◌∙◌, arith}
+use Rattle.rules.specs.Bits.{word, put}
 use Rattle.rules.specs.Bitmap.{bitmap}
 use Rattle.rules.specs.Grammar.{Piece, cut_entries, Cut}
 use Rattle.words.specs.Bits.{word-ext}
 use Rattle.words.specs.Appended.{appended}
 use Rattle.bitmaps.specs.Bitmaps.{bitmap-none, appended-bitmap}
 use Rattle.runs_read.specs.TwoPasses.{put_all, pass, pass-cut}
-use Rattle.runs_mark.specs.BodyParts.{part_word}
 use Rattle.runs_walk.specs.Covered.{written, covers}
-use Rattle.runs_read.specs.Parts.{body-fits}
+use Rattle.runs_walk.specs.CountedTurns.{OfValues}
 
 -- m entries' bits are put behind those in place
 abbrev pub marks : (ℕ → Bool) → ℕ → ℕ → (ℕ → ℕ) → List ℕ → List ℕ
 marks test i m value out = appended out i (word m (λ k. test (value k))) m
+
+pub marks-values : (test : ℕ → Bool) → OfValues (marks test)
+marks-values test i m f g out same = ap (λ (x : ℕ). appended out i x m) (word-ext m (λ k h. ap test (same k h)))
 
 -- what a pass over a page leaves of a bitmap
 unfoldable pub marked : (ℕ → Bool) → ℕ → ℕ → List ℕ → List ℕ → List ℕ
@@ -41,18 +42,8 @@ marked-cut test w n page ps out cut =
     grows : (i m : ℕ) (f value : ℕ → ℕ) → i + m ≤ n → ((k : ℕ) → k < m → value k ≡ f (i + k))
         → marks test i m value (holding i f) ≡ holding (i + m) f
     grows i m f value fits e =
-        ap (λ (x : ℕ). appended (put out 0 (bitmap i (λ k. test (f k)))) i x m) (word-ext m (λ k h. ap test (e k h)))
+        marks-values test i m value (λ k. f (i + k)) (holding i f) e
         ∙ appended-bitmap out i m (λ k. test (f k))
 
     none : out ≡ holding 0 (λ i. get_or (cut_entries w ps) i 0)
     none = bitmap-none out 0 (λ i. test (get_or (cut_entries w ps) i 0))
-
--- a packed run's bits, of the entries as they lie in the page
-pub marked-body : (test : ℕ → Bool) (page out new : List ℕ) (w start groups left i m : ℕ) → m ≡ min (8 * groups) left
-    → new ≡ appended out i (word m (λ k. test (field low_first page (8 * start + k * w) w))) m
-    → new ≡ marks test i (min (8 * groups) left) (entry low_first (take (w * groups) (drop start page)) w) out
-marked-body test page out new w start groups left i m few e =
-    e
-    ∙ ap (λ (x : ℕ). appended out i x m)
-    (sym (part_word page start (w * groups) w m test (body-fits w groups m (omega arith))))
-    ∙ ap (λ (k : ℕ). marks test i k (entry low_first (take (w * groups) (drop start page)) w) out) few

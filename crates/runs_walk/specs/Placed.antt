@@ -1,9 +1,9 @@
 -- The places that a stream's runs fill hold its entries.
 use Rattle.std.specs.Prelude.{◌≡◌, length, take, drop}
 use Rattle.std.proofs.Math.Path.{refl, ap}
-use Rattle.std.proofs.Common.{sym, ◌∙◌, arith}
+use Rattle.std.proofs.Common.{◌∙◌, arith}
 use mathlib.Core.List.{List}
-use Prim.Native.Nat.{ℕ, ◌+◌, ◌*◌, ◌≤◌, ◌<◌, min}
+use Prim.Native.Nat.{ℕ, ◌+◌, ◌*◌, ◌≤◌, ◌<◌}
 use Rattle.std.proofs.Math.ListN.{get_or}
 use Rattle.rules.specs.Bits.{field, entry, put, tabulate}
 use Rattle.rules.specs.Bits.Order.{low_first}
@@ -12,7 +12,7 @@ use Rattle.words.specs.Entries.{field-window, place-within}
 use Rattle.words.specs.Tabulated.{tabulate-none, tabulate-ext, put-tabulate_add}
 use Rattle.runs_read.specs.TwoPasses.{put_all, pass, pass-cut}
 use Rattle.runs_walk.specs.Covered.{written, covers}
-use Rattle.runs_read.specs.Parts.{body-fits}
+use Rattle.runs_walk.specs.CountedTurns.{OfValues}
 
 -- ---- each entry as the value that stands for it
 
@@ -20,6 +20,10 @@ module _ {A : Type 0} (value : ℕ → A) where
   -- m entries are put into the places behind those that are filled
   abbrev pub places : ℕ → ℕ → (ℕ → ℕ) → List A → List A
   places i m entry out = put out i (tabulate m (λ k. value (entry k)))
+
+  pub places-values : OfValues places
+  places-values i m f g out same =
+      ap (put out i) (tabulate-ext m (λ k. value (f k)) (λ k. value (g k)) (λ k h. ap value (same k h)))
 
   -- what a pass over a page leaves of the places
   unfoldable pub placed : ℕ → ℕ → List ℕ → List A → List A
@@ -45,8 +49,7 @@ module _ {A : Type 0} (value : ℕ → A) where
       grows : (i m : ℕ) (f entry : ℕ → ℕ) → i + m ≤ n → ((k : ℕ) → k < m → entry k ≡ f (i + k))
           → places i m entry (holding i f) ≡ holding (i + m) f
       grows i m f entry fits e =
-          ap (put (holding i f) i)
-          (tabulate-ext m (λ k. value (entry k)) (λ k. value (f (i + k))) (λ k h. ap value (e k h)))
+          places-values i m entry (λ k. f (i + k)) (holding i f) e
           ∙ put-tabulate_add out i m (λ k. value (f k)) (omega arith)
 
 -- ---- a packed run
@@ -60,12 +63,3 @@ module _ {A : Type 0} (value : ℕ → A) where
       tabulate-ext m (λ k. value (entry low_first (take n (drop a page)) w k))
       (λ k. value (field low_first page (8 * a + k * w) w))
       (λ k l. ap value (field-window page a n (k * w) w (omega (arith, place-within w k m l))))
-
-  -- its entries, as they lie in the page
-  pub placed-body : (page : List ℕ) (out new : List A) (w start groups left i m : ℕ) → m ≡ min (8 * groups) left
-      → new ≡ put out i (tabulate m (λ k. value (field low_first page (8 * start + k * w) w)))
-      → new ≡ places value i (min (8 * groups) left) (entry low_first (take (w * groups) (drop start page)) w) out
-  placed-body page out new w start groups left i m few e =
-      e
-      ∙ ap (put out i) (sym (part_entries page start (w * groups) w m (body-fits w groups m (omega arith))))
-      ∙ ap (λ (k : ℕ). places value i k (entry low_first (take (w * groups) (drop start page)) w) out) few

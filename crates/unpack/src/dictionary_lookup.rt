@@ -3,12 +3,11 @@ ghost use Rattle.std.specs.Prelude.{◌≡◌, ◌+◌, ◌*◌, ◌%◌, ◌≤
 ghost use Rattle.rules.specs.Bits.{ceil, field, put, tabulate};
 ghost use Rattle.rules.specs.Bits.Order.{low_first};
 ghost use Rattle.rules.specs.Dictionary.{value};
-ghost use Rattle.runs_walk.specs.Placed.{placed};
+ghost use Rattle.runs_walk.specs.Placed.{places, places-values, placed};
 
 use dictionary_scan::values::value_any;
 use packed_entries::unpacking::unpack;
-use rules::Run;
-use runs_read::plain::run_at;
+use runs_walk::walking::{RunWriting, write_runs};
 
 // The values of the first m indexes of a list, into the first m places.
 fn look_up(dict: &[u8], indexes: &[u32], m: usize, places: &mut [i32])
@@ -20,15 +19,6 @@ fn look_up(dict: &[u8], indexes: &[u32], m: usize, places: &mut [i32])
     for (i, place) in places[..m].iter_mut().enumerate() {
         *place = value_any(dict, indexes[i]);
     }
-}
-
-// A repeated run: m times the value of one index, into the places from place p on.
-fn place_same(dict: &[u8], index: u32, entries: &mut [i32], p: usize, m: usize)
-    requires { (length dict.now % 4 ≡ 0) × (p + m ≤ length entries.old) }
-    ensures { entries.new
-        ≡ put entries.old p (tabulate m (λ _. value dict.now index)) }
-{
-    entries[p..p + m].fill(value_any(dict, index));
 }
 
 // At most 64 packed indexes from byte `from` on, unpacked by groups: their values, into the places from
@@ -54,28 +44,42 @@ fn place_part(
     look_up(dict, &indexes, m, &mut entries[p..]);
 }
 
-// A packed run, whose body begins at byte `start`: the values of its first m indexes, into the places from
-// place p on.
-fn place_body(
-    dict: &[u8],
-    page: &[u8],
-    start: usize,
-    w: u32,
-    entries: &mut [i32],
-    p: usize,
-    m: usize,
-)
-    requires { (length dict.now % 4 ≡ 0) × (w ≤ 32) × (m ≤ 16384)
-        × (start + ceil (m * w) 8 ≤ length page.now) × (p + m ≤ length entries.old) }
-    ensures { entries.new
-        ≡ put entries.old p
-        (tabulate m
-        (λ k. value dict.now (field low_first page.now (8 * start + k * w) w))) }
-{
-    let mut from = start;
-    for i in (0..m).step_by(64) {
-        place_part(dict, page, from, w, entries, p + i, (m - i).min(64));
-        from += 8 * w as usize;
+// Into the places of the indexes, as the values of a dictionary.
+#[derive(Clone, Copy)]
+struct Values<'a> {
+    dict: &'a [u8],
+}
+
+impl<'a> RunWriting for Values<'a> {
+    type Out = i32;
+
+    ghost each = { 1 };
+
+    ghost Sound = { λ values. length values.dict.now % 4 ≡ 0 };
+
+    ghost write = { λ values. places (value values.dict.now) };
+
+    ghost of_values = { λ values. places-values (value values.dict.now) };
+
+    fn write_same(self, index: u32, m: usize, entries: &mut [i32], i: usize) {
+        entries[i..i + m].fill(value_any(self.dict, index));
+    }
+
+    fn write_packed(
+        self,
+        page: &[u8],
+        start: usize,
+        w: usize,
+        m: usize,
+        entries: &mut [i32],
+        i: usize,
+    ) {
+        let mut from = start;
+        for k in (0..m).step_by(64) {
+            let few = (m - k).min(64);
+            place_part(self.dict, page, from, w as u32, entries, i + k, few);
+            from += 8 * w;
+        }
     }
 }
 
@@ -85,27 +89,5 @@ pub fn look_up_runs(dict: &[u8], page: &[u8], w: u32, n: usize, entries: &mut [i
     ensures { entries.new
         ≡ placed (value dict.now) w n page.now entries.old }
 {
-    let mut at: usize = 0;
-    let mut i: usize = 0;
-    while i < n {
-        let Ok(run) = run_at(page, at, w as usize, n - i) else {
-            return;
-        };
-        match run {
-            Run::Repeated { count, value, next } => {
-                place_same(dict, value, entries, i, count);
-                i += count;
-                at = next;
-            }
-            Run::Packed {
-                groups,
-                start,
-                next,
-            } => {
-                place_body(dict, page, start, w, entries, i, (8 * groups).min(n - i));
-                i += 8 * groups;
-                at = next;
-            }
-        }
-    }
+    write_runs(Values { dict }, page, w as usize, n, entries);
 }

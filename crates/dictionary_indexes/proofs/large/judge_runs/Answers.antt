@@ -3,20 +3,18 @@
 -- fewer are left with each turn.
 use mathlib.Core.Path.{refl, sym, ap, ◌∙◌}
 use mathlib.Core.Bool.{false}
-use Prim.Native.Nat.{◌-◌}
 use native.Mathlib.Omega.{arith}
 use lib.Dec.{leb}
 use borrow.Author.Rules.{rules}
 use borrow.Author.Tests.{lt-ltb, le-ltb}
-use Rattle.std.specs.Prelude.{Ok}
-use Rattle.rules.specs.Runs.{run_of}
+use Rattle.std.specs.Prelude.{Bool, ◌||◌}
 use Rattle.answers.specs.Laws.{then_found, passed_up}
 use Rattle.runs_read.specs.Parts.{body-fits}
-use Rattle.runs_read.specs.RunRead.{ran_repeated, ran_packed}
+use Rattle.runs_read.specs.RunRead.{read_repeated, read_packed}
 use Rattle.runs_read.specs.Walks.{on_end}
 use Rattle.runs_read.specs.TwoPasses.{judge}
-use Rattle.runs_walk.specs.CountedTurns.{begins, on_repeated, on_packed, ends}
-use Rattle.dictionary_indexes.specs.SomeEntry.{seeks, sought-pass, seeks-same, seeks-body}
+use Rattle.runs_walk.specs.CountedTurns.{begins, on_repeated, on_body, ends}
+use Rattle.dictionary_indexes.specs.SomeEntry.{seeks, sought-pass, seeks-same, seeks-values}
 use Rattle.dictionary_indexes.specs.SomeEntry.{judging-begins, judging-repeated, judging-packed}
 use Rattle.dictionary_indexes.specs.SomeEntry.{judging-refused, then_sought}
 use Rattle.dictionary_indexes.proofs.large.judge_runs.Goals as goal
@@ -31,76 +29,54 @@ loop-i-init c =
     )
 
 pub overflow_add-i : goal.overflow_add-i
-overflow_add-i c =
-    let repeated-run = sym c.in_ok-run.ensures ∙ ap run_of (ap Ok c.in-Repeated.is) in
-    omega (arith, ran_repeated _ _ _ _ repeated-run)
+overflow_add-i c = omega (arith, read_repeated _ _ _ _ c.in_ok-run.ensures c.in-Repeated.is)
 
 pub loop-i-smaller-in-Repeated : goal.loop-i-smaller-in-Repeated
-loop-i-smaller-in-Repeated c =
-    let repeated-run = sym c.in_ok-run.ensures ∙ ap run_of (ap Ok c.in-Repeated.is) in
-    omega (arith, ran_repeated _ _ _ _ repeated-run)
+loop-i-smaller-in-Repeated c = omega (arith, read_repeated _ _ _ _ c.in_ok-run.ensures c.in-Repeated.is)
 
 pub loop-i-preserved-in-Repeated : goal.loop-i-preserved-in-Repeated
 loop-i-preserved-in-Repeated c =
-    let repeated-run = sym c.in_ok-run.ensures ∙ ap run_of (ap Ok c.in-Repeated.is) in
     let a = c.args in
-    let ran = ran_repeated _ _ _ _ repeated-run in (
+    let ran = read_repeated _ _ _ _ c.in_ok-run.ensures c.in-Repeated.is in (
       omega arith,
       c.loop-i.invariant.1,
-      judging-repeated a.w a.n a.page.now (omega arith) c.loop-i.invariant.2 repeated-run,
-      on_repeated _ (seeks (leb a.limit)) _ _ _ (omega arith) c.loop-i.invariant.3 repeated-run
-          (seeks-same (leb a.limit) c.loop-i.i c.in-Repeated.count c.in-Repeated.value c.loop-i.large ran.0
-          refl),
+      judging-repeated a.w a.n a.page.now (omega arith) c.loop-i.invariant.2 ran.0,
+      on_repeated _ (seeks (leb a.limit)) _ _ _ (omega arith) c.loop-i.invariant.3 ran.0
+          (seeks-same (leb a.limit) c.loop-i.i c.in-Repeated.count c.in-Repeated.value c.loop-i.large ran.1 refl),
     )
 
 pub overflow_mul-groups : goal.overflow_mul-groups
-overflow_mul-groups c =
-    let packed-run = sym c.in_ok-run.ensures ∙ ap run_of (ap Ok c.in-Packed.is) in
-    omega (arith, ran_packed _ _ _ _ packed-run)
+overflow_mul-groups c = omega (arith, read_packed _ _ _ _ c.in_ok-run.ensures c.in-Packed.is)
 
 pub some_packed-large-requires : goal.some_packed-large-requires
 some_packed-large-requires c =
-    let packed-run = sym c.in_ok-run.ensures ∙ ap run_of (ap Ok c.in-Packed.is) in
-    let ran = ran_packed _ _ _ _ packed-run in (
+    let ran = read_packed _ _ _ _ c.in_ok-run.ensures c.in-Packed.is in (
       search rules,
       omega arith,
       search rules,
       c.requires.3,
-      omega (
-        arith,
-        body-fits c.args.w c.in-Packed.groups c.min.result
-            (omega arith),
-      ),
+      omega (arith, body-fits c.args.w c.in-Packed.groups c.min.result (omega arith)),
       omega (arith, c.loop-i.invariant.1),
     )
 
 pub overflow_mul-i : goal.overflow_mul-i
-overflow_mul-i c =
-    let packed-run = sym c.in_ok-run.ensures ∙ ap run_of (ap Ok c.in-Packed.is) in
-    omega (arith, ran_packed _ _ _ _ packed-run)
+overflow_mul-i c = omega (arith, read_packed _ _ _ _ c.in_ok-run.ensures c.in-Packed.is)
 
 pub overflow_add-i-in-Packed : goal.overflow_add-i-in-Packed
-overflow_add-i-in-Packed c =
-    let packed-run = sym c.in_ok-run.ensures ∙ ap run_of (ap Ok c.in-Packed.is) in
-    omega (arith, ran_packed _ _ _ _ packed-run)
+overflow_add-i-in-Packed c = omega (arith, read_packed _ _ _ _ c.in_ok-run.ensures c.in-Packed.is)
 
 pub loop-i-smaller : goal.loop-i-smaller
-loop-i-smaller c =
-    let packed-run = sym c.in_ok-run.ensures ∙ ap run_of (ap Ok c.in-Packed.is) in
-    omega (arith, ran_packed _ _ _ _ packed-run)
+loop-i-smaller c = omega (arith, read_packed _ _ _ _ c.in_ok-run.ensures c.in-Packed.is)
 
 pub loop-i-preserved : goal.loop-i-preserved
 loop-i-preserved c =
-    let packed-run = sym c.in_ok-run.ensures ∙ ap run_of (ap Ok c.in-Packed.is) in
     let a = c.args in
-    let ran = ran_packed _ _ _ _ packed-run in (
+    let ran = read_packed _ _ _ _ c.in_ok-run.ensures c.in-Packed.is in (
       omega arith,
       search rules,
-      judging-packed a.w a.n a.page.now (omega arith) c.loop-i.invariant.2 packed-run,
-      on_packed _ (seeks (leb a.limit)) _ _ _ (omega arith) c.loop-i.invariant.3 packed-run
-          (seeks-body (leb a.limit) a.page.now a.w c.in-Packed.start c.in-Packed.groups (a.n - c.loop-i.i) c.loop-i.i
-          c.min.result c.loop-i.large c.some_packed-large.result
-          c.min.ensures c.some_packed-large.ensures refl),
+      judging-packed a.w a.n a.page.now (omega arith) c.loop-i.invariant.2 ran.0,
+      on_body _ (seeks (leb a.limit)) _ _ _ (omega arith) c.loop-i.invariant.3 (seeks-values (leb a.limit)) ran.0
+          c.min.ensures (ap (λ (t : Bool). c.loop-i.large || t) c.some_packed-large.ensures),
     )
 
 pub returns-in_err-run : goal.returns-in_err-run

@@ -1,17 +1,17 @@
--- `unpack::dictionary_lookup::place_same` meets its contract: each place of the part holds the value.
+-- `Values::write_same` meets its contract: each place of the part holds the value.
 use Rattle.std.proofs.Common.{rules, ap, ◌∙◌, arith}
 use lib.IntN.{ℤ}
 use mir.Syntax.{w32}
 use mir.ValLaws.{to_z-of_z}
 use Rattle.rules.specs.Bits.{put, tabulate}
 use Rattle.unpack.proofs.Filled.{filled}
-use Rattle.unpack.proofs.dictionary_lookup.place_same.Goals as goal
+use Rattle.unpack.proofs.dictionary_lookup.ValuesRunWriting.write_same.Goals as goal
 
 pub returns : goal.returns
 returns c =
     let v = c.value_any in
     let a = c.args in
-    filled a.entries.now c.fill.new.self a.p _ _ a.m _ (c.fill.ensures.after (search rules))
+    filled a.entries.now c.fill.new.self a.i _ _ a.m _ (c.fill.ensures.after (search rules))
     (search rules) (omega arith)
-    ∙ ap (λ (x : ℤ). put a.entries.now a.p (tabulate a.m (λ _. x)))
+    ∙ ap (λ (x : ℤ). put a.entries.now a.i (tabulate a.m (λ _. x)))
     (to_z-of_z w32 v.result (record { sfits = v.type_inv }) ∙ v.ensures)
