@@ -1,14 +1,14 @@
 -- The laws of `number` and `bytes`, over the count of bytes.
 use Rattle.std.specs.Prelude.{◌≡◌, refl, List, [], ◌∷◌, ◌++◌, ℕ, zero, suc, ◌+◌, ◌-◌, ◌*◌, ◌/◌, ◌%◌, ◌^◌, ◌≤◌, ◌<◌, length, take, drop, get_or, set}
 use Rattle.std.proofs.Common.{sym, ap, ap₂, ◌∙◌, mul_assoc, zero-add, suc-add, pow-suc, div-one, add_comm, mod-eq_of_lt, lt_of_lt_of_le, add-one, arith, pow-add, pow_mono, length-drop, drop_of_length-le, take_at, take-add, drop-drop, drop-cons, length-take-le}
-use Rattle.std.proofs.Math.Nat.{pow-succ', one-le-pow, div-div-eq-div-mul, mod-one, div-eq_of_lt, div-eq-sub-div}
+use Rattle.std.proofs.Math.Nat.{pow-succ', one-le-pow, div-div-eq-div-mul, mod-one, div-eq_of_lt, div-mul-le_self, suc-mul, mul-suc, mul-zero, mul_comm, mul-le-mul_left, not-suc-le-zero}
 use Rattle.std.proofs.Math.Arith.{mod-mul}
 use Rattle.std.specs.Int.{sum_through, byte_worth, byte_at, bytes_low_first}
 use borrow.Rule.Slice.PartMut.{put_mid}
 use Rattle.std.specs.Simd.{first_chunks}
 use Rattle.rules.specs.Bits.{joined, number, bytes, put}
 use Rattle.std.proofs.Math.Seq.{take_all}
-use Rattle.words.specs.Puts.{put-end, put_snoc, part_rest, part-put}
+use Rattle.words.specs.Puts.{put-end, put_snoc, part-put}
 
 -- the number of some bytes, and then of more behind them
 pub number_append : (a b : List ℕ) → number (a ++ b) ≡ number a + number b * 256 ^ length a
@@ -47,19 +47,28 @@ number_through bs (suc n) h =
     rw (number_through bs n (omega arith), ← (number-one bs (suc n) h))
     (sym (rw (add-one, zero-add) at (number_add bs 0 (suc n) 1 (omega arith))))
 
--- that of the first of the chunks into which the bytes from `at` on are cut
-pub number_chunk : (s : List ℕ) (at n : ℕ) (cs : List (List ℕ)) → at + suc n ≤ length s
-    → let t = take (length s - at) (drop at s) in
-    cs ≡ first_chunks (suc n) (length t / suc n) t
-    → sum_through (λ i. byte_worth i (get_or (get_or cs 0 []) i 0)) n ≡ number (take (suc n) (drop at s))
-number_chunk s at n cs h e =
-    let t : List ℕ = drop at s in
-    let long : suc n ≤ length t = simp length-drop (omega arith) in
-    let some : length t / suc n ≡ suc ((length t - suc n) / suc n) =
-    div-eq-sub-div (omega arith) long ∙ add-one ((length t - suc n) / suc n) in
-    let size : length (take (suc n) t) ≡ suc n = length-take-le (suc n) t long in
-    rw (e, part_rest s at, some)
-    (number_through (take (suc n) t) n (omega arith) ∙ ap number (take_all (suc n) (take (suc n) t) (omega arith)))
+-- the number of chunk k of those into which bytes are cut
+chunk : (t : List ℕ) (n q k : ℕ) → k < q → q * n ≤ length t → get_or (first_chunks n q t) k [] ≡ take n (drop (n * k) t)
+chunk t n zero k h few = absurd (not-suc-le-zero h)
+chunk t n (suc q) zero h few = rw mul-zero
+chunk t n (suc q) (suc k) h few =
+    let size : suc q * n ≡ q * n + n = suc-mul q n in
+    let place : n + n * k ≡ n * suc k = omega (arith, mul-suc n k) in
+    chunk (drop n t) n q k (omega arith) (simp length-drop (omega arith))
+    ∙ ap (take n) (drop-drop (n * k) n t ∙ ap (λ (i : ℕ). drop i t) place)
+
+pub number_chunk : (t : List ℕ) (n k : ℕ) (cs : List (List ℕ)) → k < length t / suc n
+    → cs ≡ first_chunks (suc n) (length t / suc n) t
+    → sum_through (λ i. byte_worth i (get_or (get_or cs k []) i 0)) n ≡ number (take (suc n) (drop (suc n * k) t))
+number_chunk t n k cs h e =
+    let q : ℕ = length t / suc n in
+    let few : q * suc n ≤ length t = div-mul-le_self (length t) (suc n) in
+    let c : List ℕ = take (suc n) (drop (suc n * k) t) in
+    let same : get_or cs k [] ≡ c = rw e (chunk t (suc n) q k h few) in
+    let size : length c ≡ suc n =
+    length-take-le (suc n) (drop (suc n * k) t)
+    (simp length-drop (omega (arith, mul-le-mul_left (suc n) h, mul-suc (suc n) k, mul_comm q (suc n)))) in
+    rw same (number_through c n (omega arith) ∙ ap number (take_all (suc n) c (omega arith)))
 
 -- ---- a number's bytes
 
