@@ -7,17 +7,14 @@ ghost use Rattle.rules.specs.Bits.Order.{low_first};
 ghost use Rattle.bitmaps.specs.Counts.{count_ones};
 ghost use Rattle.bitmaps.specs.Trimmed.{trimmed};
 
-use words::loads::load8;
-
 // Is bit i set; past the end none is.
 pub fn is_set(bitmap: &[u8], i: usize) -> bool
     ensures { flag result ≡ bit_at low_first 8 bitmap.now i }
 {
-    let k = i / 8;
-    if bitmap.len() <= k {
-        return false;
+    match bitmap.get(i / 8) {
+        Some(byte) => (*byte >> (i % 8)) % 2 == 1,
+        None => false,
     }
-    (bitmap[k] >> (i % 8)) % 2 == 1
 }
 
 // How many bits of the first m bytes are set: word by word, then byte by byte.
@@ -25,13 +22,13 @@ fn ones_in(bitmap: &[u8], m: usize) -> u32
     requires { (m ≤ length bitmap.now) × (m ≤ 2048) }
     ensures { result ≡ count_ones (take m bitmap.now) }
 {
-    let words = m / 8;
+    let (words, rest) = bitmap[..m].as_chunks();
     let mut ones: u32 = 0;
-    for k in 0..words {
-        ones += u64::count_ones(load8(bitmap, 8 * k));
+    for word in words {
+        ones += u64::from_le_bytes(*word).count_ones();
     }
-    for i in 8 * words..m {
-        ones += u8::count_ones(bitmap[i]);
+    for byte in rest {
+        ones += byte.count_ones();
     }
     ones
 }
@@ -49,8 +46,7 @@ pub fn trim(bitmap: &mut [u8], n: usize)
     requires { ceil n 8 ≤ length bitmap.old }
     ensures { bitmap.new ≡ trimmed n bitmap.old }
 {
-    if n % 8 == 0 {
-        return;
+    if n % 8 != 0 {
+        bitmap[n / 8] %= 1 << (n % 8);
     }
-    bitmap[n / 8] = bitmap[n / 8] % (1 << (n % 8));
 }

@@ -10,26 +10,21 @@ pub struct Band {
     pub outside: bool,
 }
 
-fn known(low: i64, high: i64, outside: bool) -> Option<Band>
-    ensures { result ≡ Some (band low high outside) }
-{
-    Some(Band { low, high, outside })
-}
-
 // The band of an operator, if there is one of this number. Less is outside from a up, and greater outside from a down,
 // so that no a + 1 is computed.
 pub fn band_of(op: u32, a: i64, b: i64) -> Option<Band>
     ensures { result ≡ band_of op a b }
 {
-    match op {
-        0 => known(a, a, false),
-        1 => known(a, a, true),
-        2 => known(a, i64::MAX, true),
-        3 => known(i64::MIN, a, false),
-        4 => known(i64::MIN, a, true),
-        5 => known(a, i64::MAX, false),
-        6 => known(a, b, false),
-        7 => known(a, b, true),
-        8..=u32::MAX => None,
-    }
+    let (low, high, outside) = match op {
+        0 => (a, a, false),
+        1 => (a, a, true),
+        2 => (a, i64::MAX, true),
+        3 => (i64::MIN, a, false),
+        4 => (i64::MIN, a, true),
+        5 => (a, i64::MAX, false),
+        6 => (a, b, false),
+        7 => (a, b, true),
+        8.. => return None,
+    };
+    Some(Band { low, high, outside })
 }

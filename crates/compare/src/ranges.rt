@@ -1,9 +1,8 @@
 // The entries of an unsigned column that a band selects.
-ghost use Rattle.std.specs.Prelude.{◌≡◌, ◌+◌, ◌<◌, ◌≤◌, min};
+ghost use Rattle.std.specs.Prelude.{◌≡◌, ◌≤◌};
 ghost use Rattle.compare.specs.Range.{cut_of, next_of, flip_of, range_to, range_of, ranged, BoundedRange};
 
 use crate::bands::Band;
-use std::num::wrapping_sub_u32;
 
 // From low to low + span, or where flip is 255 all others.
 #[derive(Clone, Copy)]
@@ -17,33 +16,14 @@ pub struct Range {
 fn cut(z: i64) -> u64
     ensures { result ≡ cut_of z }
 {
-    if z < 0 {
-        return 0;
-    }
-    if z < 4294967296 {
-        return z as u64;
-    }
-    4294967296
-}
-
-// One more of the numbers below 2^32, where there is one.
-pub fn one_more(below: u64) -> u64
-    ensures { result ≡ min (below + 1) 4294967296 }
-{
-    if below < 4294967296 {
-        return below + 1;
-    }
-    4294967296
+    z.clamp(0, 4294967296) as u64
 }
 
 // How many of the numbers below 2^32 are at most z.
 fn next(z: i64) -> u64
     ensures { result ≡ next_of z }
 {
-    if z < 0 {
-        return 0;
-    }
-    one_more(cut(z))
+    cut(z.saturating_add(1))
 }
 
 fn flip_of(outside: bool) -> u8
@@ -58,16 +38,17 @@ pub fn range_to(from: u64, to: u64, outside: bool) -> Range
     ensures { result ≡ range_to from to outside }
 {
     if from < to {
-        return Range {
+        Range {
             low: from as u32,
             span: (to - from - 1) as u32,
             flip: flip_of(outside),
-        };
-    }
-    Range {
-        low: 0,
-        span: 4294967295,
-        flip: flip_of(!outside),
+        }
+    } else {
+        Range {
+            low: 0,
+            span: u32::MAX,
+            flip: flip_of(!outside),
+        }
     }
 }
 
@@ -82,9 +63,5 @@ pub fn passes(range: Range, x: u32) -> bool
     requires { BoundedRange range }
     ensures { result ≡ ranged range x }
 {
-    let inside = wrapping_sub_u32(x, range.low) <= range.span;
-    if 0 < range.flip {
-        return !inside;
-    }
-    inside
+    (x.wrapping_sub(range.low) <= range.span) != (0 < range.flip)
 }

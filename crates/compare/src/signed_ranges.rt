@@ -3,30 +3,20 @@ ghost use Rattle.std.specs.Prelude.{◌≡◌};
 ghost use Rattle.compare.specs.SignedRange.{signed_cut, signed_next, signed_range_of};
 
 use crate::bands::Band;
-use crate::ranges::{Range, one_more, range_to};
-use signed::wrapping::raised32;
+use crate::ranges::{Range, range_to};
 
 // How many signed numbers of 32 bits are below z.
 fn cut(z: i64) -> u64
     ensures { result ≡ signed_cut 32 z }
 {
-    if 2147483648 <= z {
-        return 4294967296;
-    }
-    if -2147483648 <= z {
-        return raised32(z) as u64;
-    }
-    0
+    (z.clamp(-2147483648, 2147483648) + 2147483648) as u64
 }
 
 // How many signed numbers of 32 bits are at most z.
 fn next(z: i64) -> u64
     ensures { result ≡ signed_next 32 z }
 {
-    if z < -2147483648 {
-        return 0;
-    }
-    one_more(cut(z))
+    cut(z.saturating_add(1))
 }
 
 pub fn signed_range_of(band: Band) -> Range

@@ -6,8 +6,5 @@ ghost use Rattle.std.specs.Int.Signed.{mag};
 pub fn magnitude_of(z: i64) -> u64
     ensures { result ≡ mag z }
 {
-    if z < 0 {
-        return (-(z + 1)) as u64;
-    }
-    z as u64
+    if z < 0 { !z as u64 } else { z as u64 }
 }

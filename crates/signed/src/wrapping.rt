@@ -3,34 +3,23 @@ ghost use Rattle.std.specs.Prelude.{◌≡◌};
 ghost use Rattle.rules.specs.Signed.{modulo, signed};
 ghost use Rattle.signed.specs.Raised.{raised};
 
-use crate::magnitudes::magnitude_of;
-use std::num::wrapping_add_u32;
-
 // z modulo 2^32.
 pub fn kept32(z: i64) -> u32
     ensures { result ≡ modulo 32 z }
 {
-    let low = (magnitude_of(z) % 4294967296) as u32;
-    if z < 0 {
-        return u32::MAX - low;
-    }
-    low
+    (z.cast_unsigned() % 4294967296) as u32
 }
 
 // The signed number that is kept as x.
 pub fn signed32(x: u32) -> i32
     ensures { result ≡ signed 32 x }
 {
-    if x < 2147483648 {
-        return x as i32;
-    }
-    let past = (u32::MAX - x) as i32;
-    -past - 1
+    x.cast_signed()
 }
 
 // How many signed numbers of 32 bits are below z, where z is one.
 pub fn raised32(z: i64) -> u32
     ensures { result ≡ raised 32 z }
 {
-    wrapping_add_u32(kept32(z), 2147483648)
+    kept32(z).wrapping_add(2147483648)
 }

@@ -8,18 +8,12 @@ pub fn unzig(u: u64) -> i64
     ensures { result ≡ zigzag u }
 {
     let half = (u / 2) as i64;
-    if u % 2 == 0 {
-        return half;
-    }
-    -half - 1
+    if u % 2 == 0 { half } else { -half - 1 }
 }
 
 pub fn zig(z: i64) -> u64
     ensures { result ≡ zigzag_of z }
 {
     let twice = 2 * magnitude_of(z);
-    if z < 0 {
-        return twice + 1;
-    }
-    twice
+    if z < 0 { twice + 1 } else { twice }
 }

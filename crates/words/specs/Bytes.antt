@@ -1,10 +1,14 @@
 -- The laws of `number` and `bytes`, over the count of bytes.
 use Rattle.std.specs.Prelude.{◌≡◌, refl, List, [], ◌∷◌, ◌++◌, ℕ, zero, suc, ◌+◌, ◌-◌, ◌*◌, ◌/◌, ◌%◌, ◌^◌, ◌≤◌, ◌<◌, length, take, drop, get_or, set}
-use Rattle.std.proofs.Common.{sym, ap, ap₂, ◌∙◌, mul_assoc, zero-add, suc-add, pow-suc, div-one, add_comm, mod-eq_of_lt, lt_of_lt_of_le, add-one, arith, pow-add, pow_mono, length-drop, drop_of_length-le, take-add, drop-drop, drop-cons, length-take-le}
-use Rattle.std.proofs.Math.Nat.{pow-succ', one-le-pow, div-div-eq-div-mul, mod-one, div-eq_of_lt}
+use Rattle.std.proofs.Common.{sym, ap, ap₂, ◌∙◌, mul_assoc, zero-add, suc-add, pow-suc, div-one, add_comm, mod-eq_of_lt, lt_of_lt_of_le, add-one, arith, pow-add, pow_mono, length-drop, drop_of_length-le, take_at, take-add, drop-drop, drop-cons, length-take-le}
+use Rattle.std.proofs.Math.Nat.{pow-succ', one-le-pow, div-div-eq-div-mul, mod-one, div-eq_of_lt, div-mul-le_self, suc-mul, mul-suc, mul-zero, mul_comm, mul-le-mul_left, not-suc-le-zero}
 use Rattle.std.proofs.Math.Arith.{mod-mul}
+use Rattle.std.specs.Int.{sum_through, byte_worth, byte_at, bytes_low_first}
+use borrow.Rule.Slice.PartMut.{put_mid}
+use Rattle.std.specs.Simd.{first_chunks}
 use Rattle.rules.specs.Bits.{joined, number, bytes, put}
-use Rattle.words.specs.Puts.{put-put, put-end, put_snoc}
+use Rattle.std.proofs.Math.Seq.{take_all}
+use Rattle.words.specs.Puts.{put-end, put_snoc, part-put}
 
 -- the number of some bytes, and then of more behind them
 pub number_append : (a b : List ℕ) → number (a ++ b) ≡ number a + number b * 256 ^ length a
@@ -34,6 +38,37 @@ number_step s k h = rw (drop-cons s k 0 h, add-one) (add_comm (get_or s k 0) (nu
 pub number-end : (s : List ℕ) (k : ℕ) → length s ≤ k → number (drop k s) ≡ 0
 unfolding joined
 number-end s k h = rw (drop_of_length-le s h)
+
+-- added up as the library's `from_le_bytes` does
+pub number_through : (bs : List ℕ) (n : ℕ) → n < length bs
+    → sum_through (λ i. byte_worth i (get_or bs i 0)) n ≡ number (take (suc n) bs)
+number_through bs zero h = sym (number-one bs 0 h)
+number_through bs (suc n) h =
+    rw (number_through bs n (omega arith), ← (number-one bs (suc n) h))
+    (sym (rw (add-one, zero-add) at (number_add bs 0 (suc n) 1 (omega arith))))
+
+-- the number of chunk k of those into which bytes are cut
+chunk : (t : List ℕ) (n q k : ℕ) → k < q → q * n ≤ length t → get_or (first_chunks n q t) k [] ≡ take n (drop (n * k) t)
+chunk t n zero k h few = absurd (not-suc-le-zero h)
+chunk t n (suc q) zero h few = rw mul-zero
+chunk t n (suc q) (suc k) h few =
+    let size : suc q * n ≡ q * n + n = suc-mul q n in
+    let place : n + n * k ≡ n * suc k = omega (arith, mul-suc n k) in
+    chunk (drop n t) n q k (omega arith) (simp length-drop (omega arith))
+    ∙ ap (take n) (drop-drop (n * k) n t ∙ ap (λ (i : ℕ). drop i t) place)
+
+pub number_chunk : (t : List ℕ) (n k : ℕ) (cs : List (List ℕ)) → k < length t / suc n
+    → cs ≡ first_chunks (suc n) (length t / suc n) t
+    → sum_through (λ i. byte_worth i (get_or (get_or cs k []) i 0)) n ≡ number (take (suc n) (drop (suc n * k) t))
+number_chunk t n k cs h e =
+    let q : ℕ = length t / suc n in
+    let few : q * suc n ≤ length t = div-mul-le_self (length t) (suc n) in
+    let c : List ℕ = take (suc n) (drop (suc n * k) t) in
+    let same : get_or cs k [] ≡ c = rw e (chunk t (suc n) q k h few) in
+    let size : length c ≡ suc n =
+    length-take-le (suc n) (drop (suc n * k) t)
+    (simp length-drop (omega (arith, mul-le-mul_left (suc n) h, mul-suc (suc n) k, mul_comm q (suc n)))) in
+    rw same (number_through c n (omega arith) ∙ ap number (take_all (suc n) c (omega arith)))
 
 -- ---- a number's bytes
 
@@ -85,17 +120,27 @@ bytes-further n k m x h enough =
 
 -- ---- bytes in place
 
--- a number stored as its low n bytes and then m more
-pub put-bytes : (l : List ℕ) (at n m x : ℕ) → at + (n + m) ≤ length l
-    → put (put l at (bytes n (x % 256 ^ n))) (at + n) (bytes m (x / 256 ^ n)) ≡ put l at (bytes (n + m) x)
-put-bytes l at n m x h =
-    let a : List ℕ = bytes n x in
-    let b : List ℕ = bytes m (x / 256 ^ n) in
-    let ea : length a ≡ n = length-bytes n x in
-    let eb : length b ≡ m = length-bytes m (x / 256 ^ n) in
-    ap₂ (λ (v : List ℕ) (k : ℕ). put (put l at v) (at + k) b) (bytes_mod n x) (sym ea)
-    ∙ put-put l a b at (omega arith)
-    ∙ ap (put l at) (sym (bytes_add n m x))
+-- the bytes as the library's `to_le_bytes` has them
+bytes_from : (i k x : ℕ) → bytes_low_first i k x ≡ bytes k (x / 256 ^ i)
+unfolding bytes
+bytes_from i zero x = refl
+bytes_from i (suc k) x =
+    ap₂ (λ (b : ℕ) (l : List ℕ). b ∷ l) (worth i)
+    (bytes_from (suc i) k x ∙ ap (bytes k) (sym (rw pow-suc (div-div-eq-div-mul x (256 ^ i) 256))))
+  where
+    worth : (i : ℕ) → byte_at i x ≡ x / 256 ^ i % 256
+    worth zero = rw div-one
+    worth (suc i) = refl
+
+-- and the first k of m of them copied into the part from `at` on
+pub put-copied : (l vs : List ℕ) (at i k m x : ℕ) → i ≡ at + k → k ≤ m → vs ≡ take k (bytes_low_first 0 m x)
+    → put_mid at (i - at) l vs ≡ put l at (bytes k x)
+put-copied l vs at i k m x end h e =
+    let j : ℕ = m - k in
+    let all : bytes_low_first 0 m x ≡ bytes k x ++ bytes j (x / 256 ^ k) =
+    bytes_from 0 m x ∙ ap (bytes m) (div-one x) ∙ ap (λ (i : ℕ). bytes i x) (omega arith) ∙ bytes_add k j x in
+    rw (e, all, take_at (bytes k x) (bytes j (x / 256 ^ k)) k (length-bytes k x))
+    (part-put l (bytes k x) at i (omega (arith, length-bytes k x)))
 
 -- one byte more
 pub put_next : (l : List ℕ) (at k x : ℕ) → at + k < length l
@@ -107,8 +152,7 @@ put_next l at k x h =
 
 -- n bytes as the first k of them and the last k, which may overlap
 pub put-ends : (l : List ℕ) (at k n x : ℕ) → k ≤ n → n ≤ k + k → at + n ≤ length l
-    → put (put l at (bytes k (x % 256 ^ k))) (at + (n - k)) (bytes k (x / 2 ^ (8 * (n - k)) % 256 ^ k))
-    ≡ put l at (bytes n x)
+    → put (put l at (bytes k x)) (at + (n - k)) (bytes k (x / 2 ^ (8 * (n - k)))) ≡ put l at (bytes n x)
 put-ends l at k n x few many h =
     let j : ℕ = n - k in
     let front : List ℕ = bytes j x in
@@ -121,5 +165,5 @@ put-ends l at k n x few many h =
     j k x in
     let long : length end ≡ k = length-bytes k (x / 256 ^ j) in
     let short : length over ≡ k - j = length-bytes (k - j) (x / 256 ^ j) in
-    rw (bytes_mod k x, bytes_mod k (x / 2 ^ (8 * j)), ← (pow_256 j), first, all)
+    rw (← (pow_256 j), first, all)
     (put-end l front over end at (at + j) (omega arith) (omega arith) (omega arith))

@@ -8,6 +8,7 @@ use Rattle.std.proofs.Math.Nat.{add_assoc}
 use native.Mathlib.Omega.{arith}
 use Rattle.std.proofs.Math.ListN.{length, length-append}
 use Rattle.std.proofs.Math.Seq.{drop-drop, length-take-le, take_at, drop_at, set_split, append_snoc, drop-append-add}
+use borrow.Rule.Slice.PartMut.{put_mid}
 use Rattle.rules.specs.Bits.{put}
 
 module _ {A : Type 0} where
@@ -107,6 +108,18 @@ module _ {A : Type 0} where
   part_put l ys vs a e =
       back-rest l ys a ∙ ap (λ (y : List A). take a l ++ y) (e ∙ ap (λ (y : List A). put y 0 vs) (part_rest l a))
       ∙ put_part l vs a
+
+  -- as many as there are
+  pub put-all : (l vs : List A) → length l ≡ length vs → put l 0 vs ≡ vs
+  unfolding put
+  put-all l vs e = rw (zero-add, drop_of_length-le l {i = length vs} (omega arith)) (append-nil vs)
+
+  -- the part from `at` to i, which was lent and holds vs
+  pub part-put : (l vs : List A) (at i : ℕ) → i ≡ at + length vs → put_mid at (i - at) l vs ≡ put l at vs
+  unfolding put
+  part-put l vs at i e =
+      let few : i - at ≡ length vs = omega arith in
+      rw (few, drop-drop) (sym (append_assoc (take at l) vs (drop (at + length vs) l)))
 
   -- a list in place of a shorter one in front of what was behind it
   pub put_longer : (l b c : List A) (a : ℕ) → length b ≤ length c

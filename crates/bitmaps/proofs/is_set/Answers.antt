@@ -4,7 +4,6 @@ use mathlib.Core.Bool.{Bool, true, false}
 use Prim.Native.Nat.{ℕ, ◌/◌, ◌%◌, ◌^◌, ◌<◌}
 use native.Mathlib.Omega.{arith}
 use lib.Dec.{eqb}
-use lib.ListN.{get_or, get_or-eq_default}
 use borrow.Author.Tests.{eqb-true, eqb-false}
 use Rattle.rules.specs.Bits.{bit, bit_of, bit_at, flag}
 use Rattle.words.specs.Bits.{bit_of_zero}
@@ -18,16 +17,15 @@ flag-of-bit x h = go (eqb x 1) refl
     go true e = sym (eqb-true x 1 e)
     go false e = omega (arith, eqb-false x 1 e)
 
-pub returns-then-bitmap-k : goal.returns-then-bitmap-k
-unfolding bit_at bit_of
-returns-then-bitmap-k c =
-    let i = c.args.i in
-    sym
-    (ap (λ (x : ℕ). bit x (i % 8)) (get_or-eq_default c.args.bitmap.now 0 {n = i / 8} (omega arith))
-    ∙ bit_of_zero (i % 8))
-
-pub returns : goal.returns
+pub returns-in-Some : goal.returns-in-Some
 unfolding bit_at bit_of bit
-returns c =
-    let b = get_or c.args.bitmap.now (c.args.i / 8) 0 in
-    flag-of-bit (b / 2 ^ (c.args.i % 8) % 2) (omega arith)
+returns-in-Some c =
+    let i = c.args.i in
+    flag-of-bit (c.in-Some.byte.now / 2 ^ (i % 8) % 2) (omega arith)
+    ∙ ap (λ (b : ℕ). b / 2 ^ (i % 8) % 2) (c.in-Some.ensures.lookup.4 (omega arith) 0)
+
+pub returns-in-None : goal.returns-in-None
+unfolding bit_at bit_of
+returns-in-None c =
+    let i = c.args.i in
+    sym (bit_of_zero (i % 8)) ∙ ap (λ (b : ℕ). bit b (i % 8)) (c.in-None.ensures.lookup.4 (omega arith) 0)

@@ -1,6 +1,6 @@
 -- `compare::ranges::range_of` meets its contract: the band's ends are read back from their bits, and the last is at
 -- most 2^32.
-use Rattle.std.proofs.Common.{◌∙◌, w64, to_z, of_z}
+use Rattle.std.proofs.Common.{◌∙◌, rules, w64, to_z, of_z}
 use mir.ValLaws.{to_z-of_z}
 use Rattle.compare.specs.Range.{range_of}
 use Rattle.compare.specs.Cuts.{next_le}
@@ -14,11 +14,10 @@ pub returns : goal.returns
 unfolding range_of
 returns c =
     let band = c.args.band in
-    let fits = c.struct_told-1.given in
     c.range_to.ensures
     ∙ rw (
       c.cut.ensures,
       c.next.ensures,
-      to_z-of_z w64 band.low (record { sfits = fits.0.1 }),
-      to_z-of_z w64 band.high (record { sfits = fits.1.0.1 }),
+      to_z-of_z w64 band.low (search rules),
+      to_z-of_z w64 band.high (search rules),
     )

@@ -7,15 +7,15 @@ use Rattle.words.specs.Bytes.{number-end}
 use native.Mathlib.Omega.{arith}
 use Rattle.words.proofs.loads.load_any.Goals as goal
 
-pub returns-then-s-at : goal.returns-then-s-at
-returns-then-s-at c =
+pub returns-in-0 : goal.returns-in-0
+returns-in-0 c =
     let a = c.args in
     sym
     (ap number (take_all 8 (drop a.at a.s.now) (omega (arith, length-drop a.at a.s.now)))
     ∙ number-end a.s.now a.at (omega arith))
 
-pub returns-then-s-at-lt8 : goal.returns-then-s-at-lt8
-returns-then-s-at-lt8 c =
+pub returns-in-1-to-7 : goal.returns-in-1-to-7
+returns-in-1-to-7 c =
     let a = c.args in
     c.load_tail.ensures
     ∙ ap number (sym (take_all 8 (drop a.at a.s.now) (omega (arith, length-drop a.at a.s.now))))

@@ -1,31 +1,36 @@
 -- `words::stores::store_each` meets its contract: each turn stores one byte more.
-use mathlib.Core.Path.{◌≡◌, sym}
-use Prim.Native.Nat.{◌^◌}
-use native.Mathlib.Nat.{div-one, div-div-eq-div-mul, pow-suc}
+use mathlib.Core.Path.{◌≡◌, sym, ◌∙◌}
+use mathlib.Core.List.{List}
+use Prim.Native.Nat.{ℕ, ◌+◌, ◌-◌, ◌^◌}
+use native.Mathlib.Nat.{div-one, div-div-eq-div-mul, pow-suc, zero-add}
 use native.Mathlib.Numerals.{add-one}
 use native.Mathlib.Omega.{arith}
-use lib.ListN.{length-set}
+use lib.ListN.{length, take, drop, length-drop}
+use lib.Seq.{length-take-le}
 use Rattle.rules.specs.Bits.{bytes}
-use Rattle.words.specs.Bytes.{put_next}
-use Rattle.words.specs.Puts.{put-none}
+use Rattle.words.specs.Bytes.{put_next, length-bytes}
+use Rattle.words.specs.Puts.{put-none, put-all, part-put}
 use Rattle.words.proofs.stores.store_each.Goals as goal
 
-pub loop-k-init : goal.loop-k-init
+pub loop-byte-init : goal.loop-byte-init
 unfolding bytes
-loop-k-init c =
-    (omega arith, omega arith, sym (div-one c.args.x), put-none c.args.s.now c.args.at)
+loop-byte-init c = record { rest = sym (div-one c.args.x); stored = put-none _ 0 }
 
-pub loop-k-preserved : goal.loop-k-preserved
-loop-k-preserved c =
-    let l = c.loop-k in
-    let a = c.args in (
-      omega arith,
-      simp length-set l.invariant.1,
-      rw (l.invariant.2, add-one, pow-suc) (div-div-eq-div-mul a.x (256 ^ l.k) 256),
-      rw (l.invariant.3, l.invariant.2) (put_next a.s.now a.at l.k a.x (omega arith)),
-    )
+pub loop-byte-preserved : goal.loop-byte-preserved
+loop-byte-preserved c =
+    let l = c.loop-byte in
+    let x = c.args.x in
+    let t : List ℕ = take (c.args.at + c.args.n - c.args.at) (drop c.args.at c.args.s.now) in
+    record {
+      rest = rw (l.invariant.rest, add-one, pow-suc) (div-div-eq-div-mul x (256 ^ l.byte-index) 256);
+      stored = rw (l.invariant.stored, l.invariant.rest) (rw zero-add at (put_next t 0 l.byte-index x (omega arith)));
+    }
 
 pub returns : goal.returns
 returns c =
-    let all : c.loop-k.k ≡ c.args.n = omega arith in
-    rw (← all) c.loop-k.invariant.3
+    let a = c.args in
+    let t : List ℕ = take (a.at + a.n - a.at) (drop a.at a.s.now) in
+    let size : length t ≡ a.n = length-take-le _ (drop a.at a.s.now) (omega (arith, length-drop a.at a.s.now)) ∙ omega arith in
+    let all : c.loop-byte.byte-index ≡ a.n = omega arith in
+    rw (c.loop-byte.invariant.stored, all, put-all t (bytes a.n a.x) (size ∙ sym (length-bytes a.n a.x)))
+    (part-put a.s.now (bytes a.n a.x) a.at (a.at + a.n) (omega (arith, length-bytes a.n a.x)))

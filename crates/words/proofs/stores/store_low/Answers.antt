@@ -1,19 +1,13 @@
--- `words::stores::store_low` meets its contract: bytes one by one, by fours or by twos, or one, or none.
-use mathlib.Core.Path.{◌≡◌}
+-- `words::stores::store_low` meets its contract where no byte is stored, or one.
 use native.Mathlib.Omega.{arith}
 use Rattle.rules.specs.Bits.{bytes}
 use Rattle.words.specs.Puts.{put-none, set-put}
 use Rattle.words.proofs.stores.store_low.Goals as goal
 
-pub returns-then-n-eq1 : goal.returns-then-n-eq1
+pub returns-in-0 : goal.returns-in-0
 unfolding bytes
-returns-then-n-eq1 c =
-    let a = c.args in
-    rw c.if-n-eq1.true (set-put a.s.now a.at _ (omega arith))
+returns-in-0 c = rw c.in-0.is (put-none c.args.s.now c.args.at)
 
-pub returns-else-n-eq1 : goal.returns-else-n-eq1
+pub returns-in-1 : goal.returns-in-1
 unfolding bytes
-returns-else-n-eq1 c =
-    let a = c.args in
-    let none : a.n ≡ 0 = omega arith in
-    rw none (put-none a.s.now a.at)
+returns-in-1 c = rw c.in-1.is (set-put c.args.s.now c.args.at _ (omega arith))
