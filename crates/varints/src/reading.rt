@@ -13,10 +13,10 @@ pub fn number_at(page: &[u8], at: usize) -> Number
     let mut sum: u64 = 0;
     let mut scale: u64 = 1;
     for passed in 0..4usize {
-        if page.len() <= i {
+        let Some(byte) = page.get(i) else {
             return Number::Ended;
-        }
-        let b = page[i] as u64;
+        };
+        let b = *byte as u64;
         if b < 128 {
             return Number::Read(sum + scale * b, i + 1);
         }
@@ -24,14 +24,11 @@ pub fn number_at(page: &[u8], at: usize) -> Number
         scale *= 128;
         i += 1;
     }
-    if page.len() <= i {
-        return Number::Ended;
+    match page.get(i) {
+        None => Number::Ended,
+        Some(16..) => Number::Beyond,
+        Some(fifth) => Number::Read(sum + scale * *fifth as u64, i + 1),
     }
-    let fifth = page[i] as u64;
-    if 16 <= fifth {
-        return Number::Beyond;
-    }
-    Number::Read(sum + scale * fifth, i + 1)
 }
 
 // Why a number was not read: the page ends in it, or it is beyond its bits.
