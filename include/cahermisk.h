@@ -42,8 +42,8 @@ extern "C" {
 uint32_t cahermisk_version(void);
 
 /*
- * As much stack as any call takes. As compiled for x86-64 it takes 3,128 bytes at
- * most, and for Arm 3,760: cahermisk_dictionary_unpack does (tools/stack).
+ * As much stack as any call takes. As compiled for x86-64 it takes 3,080 bytes at
+ * most, and for Arm 3,616: cahermisk_dictionary_unpack does (tools/stack).
  */
 #define CAHERMISK_STACK_BYTES 4096
 
