@@ -75,12 +75,12 @@ module _ (group : List ℕ) (few : length group ≤ 32) where
 
 -- ---- whatever a call was given: the group's planes, and a band with its ends
 
-pub group_compared : Every 2 compare_kinds.ps compare_kinds.r compare_reads.Learnt (λ κs g r e.
+pub group_compared : Every 3 compare_kinds.ps compare_kinds.r compare_reads.Learnt (λ κs g r e.
     (op : ℕ) (a b : ℤ) → band_of op a b ≡ Some g.1.0.now.band → length g.0.now ≤ 32
     → r ≡ compared g.0.now op a b)
 group_compared κs g r e contract op a b known few = contract ∙ by-band g.0.now few op a b g.1.0.now.band known
 
-pub four_compared_lem : Every 2 compare_four_kinds.ps compare_four_kinds.r compare_four_reads.Learnt (λ κs g r e.
+pub four_compared_lem : Every 3 compare_four_kinds.ps compare_four_kinds.r compare_four_reads.Learnt (λ κs g r e.
     (op : ℕ) (a b : ℤ) → band_of op a b ≡ Some g.1.0.now.band
     → length g.0.first.now ≤ 32 → length g.0.second.now ≤ 32
     → length g.0.third.now ≤ 32 → length g.0.fourth.now ≤ 32
@@ -112,8 +112,8 @@ alike g h size few op a b band known same =
     ∙ by-band g few op a b band known
 
 -- so two calls with one band, whatever the planes hold that the first did not take
-pub alike_called : Every 2 compare_kinds.ps compare_kinds.r compare_reads.Learnt (λ κs g r e.
-    Every 2 compare_kinds.ps compare_kinds.r compare_reads.Learnt (λ κs' h s e'.
+pub alike_called : Every 3 compare_kinds.ps compare_kinds.r compare_reads.Learnt (λ κs g r e.
+    Every 3 compare_kinds.ps compare_kinds.r compare_reads.Learnt (λ κs' h s e'.
     h.1.0.now.band ≡ g.1.0.now.band → length g.0.now ≡ length h.0.now
     → take r.taken g.0.now ≡ take r.taken h.0.now → s ≡ r))
 alike_called κs g r e contract κs' h s e' contract' band size same =

@@ -65,8 +65,19 @@ pub fn spread(c: u64, w: usize, masks: &mut [u64])
 
 // A band for groups of w planes, with its ends' bits laid out in all lanes of a word, the highest first: the low
 // end's, and ones where the high end's is another.
+#[derive(Clone, Copy)]
+pub struct Ends<'a> {
+    pub band: Band,
+    pub w: usize,
+    pub lows: &'a [u64],
+    pub apart: &'a [u64],
+    pub ghost few: { (w ≤ 32) × (w ≤ length lows.now) × (w ≤ length apart.now) },
+    pub ghost masked: { Masked lows.now apart.now w band },
+}
+
+// The same, with room of its own.
 #[derive(Drop)]
-pub struct Ends {
+pub struct LaidEnds {
     pub band: Band,
     pub w: usize,
     pub lows: [u64; 32],
@@ -75,7 +86,7 @@ pub struct Ends {
     pub ghost masked: { Masked lows apart w band },
 }
 
-impl Ends {
+impl LaidEnds {
     pub fn new(band: Band, w: usize) -> Self
         requires { w ≤ 32 }
         ensures { (result.band ≡ band) × (result.w ≡ w) }
@@ -91,6 +102,17 @@ impl Ends {
             w,
             lows,
             apart,
+        }
+    }
+
+    pub fn ends(&self) -> Ends<'_>
+        ensures { (result.band ≡ self.now.band) × (result.w ≡ self.now.w) }
+    {
+        Ends {
+            band: self.band,
+            w: self.w,
+            lows: &self.lows,
+            apart: &self.apart,
         }
     }
 }

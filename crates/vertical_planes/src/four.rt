@@ -89,7 +89,7 @@ fn planes_at(groups: Four<&[u64]>, i: usize) -> Four<u64>
 }
 
 // Four groups of the same width: as `compare` does each.
-pub fn compare_four(groups: Four<&[u64]>, ends: &Ends) -> Four<Compared>
+pub fn compare_four(groups: Four<&[u64]>, ends: &Ends<'_>) -> Four<Compared>
     requires { (length groups.first.now ≡ ends.now.w) × (length groups.second.now ≡ ends.now.w)
         × (length groups.third.now ≡ ends.now.w) × (length groups.fourth.now ≡ ends.now.w) }
     ensures { result ≡ four_compared groups.entry.first.now groups.entry.second.now groups.entry.third.now

@@ -27,7 +27,7 @@ fn told(band: Band, lanes: Lanes) -> Compared
 }
 
 // The planes that are left, as far as they are needed.
-pub fn finish(planes: &[u64], ends: &Ends, lanes: Lanes) -> Compared
+pub fn finish(planes: &[u64], ends: &Ends<'_>, lanes: Lanes) -> Compared
     requires size { length planes.now ≡ ends.now.w }
     requires standing { Standing planes.now ends.now.band lanes }
     ensures { result ≡ band_compared planes.now ends.now.band }
@@ -45,7 +45,7 @@ pub fn finish(planes: &[u64], ends: &Ends, lanes: Lanes) -> Compared
 
 // The planes of one group and a band's ends in; a bit for each lane that the band selects out, and how many
 // planes were taken.
-pub fn compare(planes: &[u64], ends: &Ends) -> Compared
+pub fn compare(planes: &[u64], ends: &Ends<'_>) -> Compared
     requires { length planes.now ≡ ends.now.w }
     ensures { result ≡ band_compared planes.now ends.now.band }
 {

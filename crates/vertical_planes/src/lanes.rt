@@ -67,14 +67,14 @@ fn together(planes: &[u64], lows: &[u64], apart: &[u64]) -> Lanes
 }
 
 // Up to where the ends part: before the first plane, if not both are within 0 to 2^w - 1.
-pub fn begin(planes: &[u64], ends: &Ends) -> Lanes
+pub fn begin(planes: &[u64], ends: &Ends<'_>) -> Lanes
     requires { length planes.now ≡ ends.now.w }
     ensures { Standing planes.now ends.now.band result }
 {
     let lower = start(ends.band.low, planes.len());
     let upper = start(ends.band.high, planes.len());
     if lower.undecided & upper.undecided != 0 {
-        return together(planes, &ends.lows, &ends.apart);
+        return together(planes, ends.lows, ends.apart);
     }
     Lanes {
         undecided: lower.undecided | upper.undecided,

@@ -4,7 +4,7 @@ ghost use Rattle.rules.specs.Bits.{ceil, put};
 ghost use Rattle.rules.specs.Vertical as Vertical;
 ghost use Rattle.vertical_planes.specs.Chosen.{chosen, lanes64};
 
-use crate::ends::Ends;
+use crate::ends::{Ends, LaidEnds};
 use crate::four::{Four, compare_four};
 use crate::groups::compare;
 use compare::bands::Band;
@@ -12,7 +12,7 @@ use rules::Compared;
 use words::stores::{store_low, store8};
 
 // The lanes of group g that the band selects, a bit for each.
-fn group_bits(words: &[u64], g: usize, ends: &Ends) -> u64
+fn group_bits(words: &[u64], g: usize, ends: &Ends<'_>) -> u64
     requires { g * ends.now.w + ends.now.w ≤ length words.now }
     ensures { result ≡ lanes64 words.now (g * ends.now.w) ends.now.w ends.now.band }
 {
@@ -22,7 +22,7 @@ fn group_bits(words: &[u64], g: usize, ends: &Ends) -> u64
 }
 
 // The same of four groups, the first of them group g.
-fn four_groups(words: &[u64], g: usize, ends: &Ends) -> Four<Compared>
+fn four_groups(words: &[u64], g: usize, ends: &Ends<'_>) -> Four<Compared>
     requires { g * ends.now.w + 4 * ends.now.w ≤ length words.now }
     ensures { (result.first.bits
         ≡ lanes64 words.now (g * ends.now.w) ends.now.w ends.now.band)
@@ -48,7 +48,7 @@ fn four_groups(words: &[u64], g: usize, ends: &Ends) -> Four<Compared>
 }
 
 // The first 4 × m groups, eight bytes each.
-fn select_fours(words: &[u64], m: usize, ends: &Ends, bitmap: &mut [u8])
+fn select_fours(words: &[u64], m: usize, ends: &Ends<'_>, bitmap: &mut [u8])
     requires { (m ≤ 64) × (4 * m * ends.now.w ≤ length words.now) × (32 * m ≤ length bitmap.old) }
     ensures { bitmap.new
         ≡ put bitmap.old 0 (chosen words.now (64 * (4 * m)) ends.now.w ends.now.band) }
@@ -64,7 +64,7 @@ fn select_fours(words: &[u64], m: usize, ends: &Ends, bitmap: &mut [u8])
 }
 
 // The q groups that n fills: four at a time, then one at a time.
-fn select_full(words: &[u64], q: usize, ends: &Ends, bitmap: &mut [u8])
+fn select_full(words: &[u64], q: usize, ends: &Ends<'_>, bitmap: &mut [u8])
     requires { (q ≤ 256) × (q * ends.now.w ≤ length words.now) × (8 * q ≤ length bitmap.old) }
     ensures { bitmap.new
         ≡ put bitmap.old 0 (chosen words.now (64 * q) ends.now.w ends.now.band) }
@@ -76,7 +76,7 @@ fn select_full(words: &[u64], q: usize, ends: &Ends, bitmap: &mut [u8])
 }
 
 // All n entries: of the group that n ends in only the bytes that it reaches.
-fn select_by(words: &[u64], n: usize, ends: &Ends, bitmap: &mut [u8])
+fn select_by(words: &[u64], n: usize, ends: &Ends<'_>, bitmap: &mut [u8])
     requires { (n ≤ 16384) × (length words.now ≡ Vertical.page_words ends.now.w n)
         × (ceil n 8 ≤ length bitmap.old) }
     ensures { bitmap.new
@@ -99,5 +99,5 @@ pub fn select(words: &[u64], w: usize, n: usize, band: Band, bitmap: &mut [u8])
     ensures { bitmap.new
         ≡ put bitmap.old 0 (chosen words.now n w band) }
 {
-    select_by(words, n, &Ends::new(band, w), bitmap);
+    select_by(words, n, &LaidEnds::new(band, w).ends(), bitmap);
 }

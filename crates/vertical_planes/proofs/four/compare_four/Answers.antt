@@ -55,13 +55,13 @@ loop-four-preserved c =
     rw (c.step_four-four.ensures, c.planes_at.ensures) (
       (ap (λ (k : ℕ). k + 1) same.0, ap (λ (k : ℕ). k + 1) same.1, ap (λ (k : ℕ). k + 1) same.2),
       (
-        next_of a.groups.first.now a.ends.now.lows a.ends.now.apart a.ends.now.band w i c.requires.0 more masked
+        next_of a.groups.first.now a.ends.now.lows.now a.ends.now.apart.now a.ends.now.band w i c.requires.0 more masked
             f.first refl some.0 small.0 upper.0 stand.0,
-        next_of a.groups.second.now a.ends.now.lows a.ends.now.apart a.ends.now.band w i c.requires.1 more masked
+        next_of a.groups.second.now a.ends.now.lows.now a.ends.now.apart.now a.ends.now.band w i c.requires.1 more masked
             f.second same.0 some.1 small.1 upper.1 stand.1,
-        next_of a.groups.third.now a.ends.now.lows a.ends.now.apart a.ends.now.band w i c.requires.2 more masked
+        next_of a.groups.third.now a.ends.now.lows.now a.ends.now.apart.now a.ends.now.band w i c.requires.2 more masked
             f.third same.1 some.2 small.2 upper.2 stand.2,
-        next_of a.groups.fourth.now a.ends.now.lows a.ends.now.apart a.ends.now.band w i c.requires.3 more masked
+        next_of a.groups.fourth.now a.ends.now.lows.now a.ends.now.apart.now a.ends.now.band w i c.requires.3 more masked
             f.fourth same.2 some.3 small.3 upper.3 stand.3,
       ),
     )
