@@ -11,8 +11,8 @@ use crate::windows::some_groups;
 use bitmaps::counted;
 use compare::ranges::range_to;
 use packed_select::select;
-use rules::{Refusal, Run};
-use runs_read::plain::run_at;
+use rules::Refusal;
+use runs_read::plain::{Found, found_at};
 
 // Do windows of eight bytes within the page's last `rest` bytes, which begin with m indexes, hold all of
 // them: whole groups, of at most sixteen bits.
@@ -90,14 +90,13 @@ pub fn judge_runs(
     let mut i: usize = 0;
     let mut large = false;
     while i < n {
-        let run = run_at(page, at, w, n - i)?;
-        match run {
-            Run::Repeated { count, value, next } => {
+        match found_at(page, at, w, n - i) {
+            Found::Repeated { count, value, next } => {
                 large |= limit <= value as usize;
                 i += count;
                 at = next;
             }
-            Run::Packed {
+            Found::Packed {
                 groups,
                 start,
                 next,
@@ -105,6 +104,9 @@ pub fn judge_runs(
                 large |= some_packed(page, start, w, (8 * groups).min(n - i), limit, scratch);
                 i += 8 * groups;
                 at = next;
+            }
+            Found::Refused(refusal) => {
+                return Err(refusal);
             }
         }
     }

@@ -6,6 +6,7 @@ pub mod RunAfterRun
 pub mod Complete
 pub mod Sound
 pub mod Exact
+pub mod FoundRuns
 pub mod Walks
 pub mod TwoPasses
 pub mod One

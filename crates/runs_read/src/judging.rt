@@ -3,8 +3,8 @@ ghost use Rattle.std.specs.Prelude.{◌≡◌, ◌≤◌};
 ghost use Rattle.rules.specs.Runs.{read, stream_fault};
 ghost use Rattle.rules.specs.Refusals.{fault};
 
-use crate::plain::run_at;
-use rules::{Refusal, Run};
+use crate::plain::{Found, found_at};
+use rules::Refusal;
 
 // The first fault in reading order, if there is one.
 pub fn judge_stream(page: &[u8], w: usize, n: usize) -> Result<(), Refusal>
@@ -14,15 +14,17 @@ pub fn judge_stream(page: &[u8], w: usize, n: usize) -> Result<(), Refusal>
     let mut at: usize = 0;
     let mut left = n;
     while 0 < left {
-        let run = run_at(page, at, w, left)?;
-        match run {
-            Run::Repeated { count, next, .. } => {
+        match found_at(page, at, w, left) {
+            Found::Repeated { count, next, .. } => {
                 left = left.saturating_sub(count);
                 at = next;
             }
-            Run::Packed { groups, next, .. } => {
+            Found::Packed { groups, next, .. } => {
                 left = left.saturating_sub(8 * groups);
                 at = next;
+            }
+            Found::Refused(refusal) => {
+                return Err(refusal);
             }
         }
     }

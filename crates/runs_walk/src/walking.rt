@@ -6,8 +6,7 @@ ghost use Rattle.runs_read.specs.TwoPasses.{pass};
 ghost use Rattle.runs_walk.specs.Covered.{written};
 ghost use Rattle.runs_walk.specs.CountedTurns.{OfValues};
 
-use rules::Run;
-use runs_read::plain::run_at;
+use runs_read::plain::{Found, found_at};
 
 // A way of writing the entries of runs.
 pub trait RunWriting: Copy {
@@ -55,16 +54,13 @@ pub fn write_runs<T: RunWriting>(writing: T, page: &[u8], w: usize, n: usize, ou
     let mut at: usize = 0;
     let mut i: usize = 0;
     while i < n {
-        let Ok(run) = run_at(page, at, w, n - i) else {
-            return;
-        };
-        match run {
-            Run::Repeated { count, value, next } => {
+        match found_at(page, at, w, n - i) {
+            Found::Repeated { count, value, next } => {
                 writing.write_same(value, count, out, i);
                 i += count;
                 at = next;
             }
-            Run::Packed {
+            Found::Packed {
                 groups,
                 start,
                 next,
@@ -72,6 +68,9 @@ pub fn write_runs<T: RunWriting>(writing: T, page: &[u8], w: usize, n: usize, ou
                 writing.write_packed(page, start, w, (8 * groups).min(n - i), out, i);
                 i += 8 * groups;
                 at = next;
+            }
+            Found::Refused(_) => {
+                return;
             }
         }
     }

@@ -8,9 +8,9 @@ use lib.Dec.{leb}
 use borrow.Author.Rules.{rules}
 use borrow.Author.Tests.{lt-ltb, le-ltb}
 use Rattle.std.specs.Prelude.{Bool, ◌||◌}
-use Rattle.answers.specs.Laws.{then_found, passed_up}
+use Rattle.answers.specs.Laws.{then_found}
 use Rattle.runs_read.specs.Parts.{body-fits}
-use Rattle.runs_read.specs.RunRead.{read_repeated, read_packed}
+use Rattle.runs_read.specs.FoundRuns.{found_of, found_repeated, found_packed}
 use Rattle.runs_read.specs.Walks.{on_end}
 use Rattle.runs_read.specs.TwoPasses.{judge}
 use Rattle.runs_walk.specs.CountedTurns.{begins, on_repeated, on_body, ends}
@@ -29,15 +29,15 @@ loop-i-init c =
     )
 
 pub overflow_add-i : goal.overflow_add-i
-overflow_add-i c = omega (arith, read_repeated _ _ _ _ c.in_ok-run.ensures c.in-Repeated.is)
+overflow_add-i c = omega (arith, found_repeated _ _ _ _ c.found_at.ensures c.in-Repeated.is)
 
 pub loop-i-smaller-in-Repeated : goal.loop-i-smaller-in-Repeated
-loop-i-smaller-in-Repeated c = omega (arith, read_repeated _ _ _ _ c.in_ok-run.ensures c.in-Repeated.is)
+loop-i-smaller-in-Repeated c = omega (arith, found_repeated _ _ _ _ c.found_at.ensures c.in-Repeated.is)
 
 pub loop-i-preserved-in-Repeated : goal.loop-i-preserved-in-Repeated
 loop-i-preserved-in-Repeated c =
     let a = c.args in
-    let ran = read_repeated _ _ _ _ c.in_ok-run.ensures c.in-Repeated.is in (
+    let ran = found_repeated _ _ _ _ c.found_at.ensures c.in-Repeated.is in (
       omega arith,
       c.loop-i.invariant.1,
       judging-repeated a.w a.n a.page.now (omega arith) c.loop-i.invariant.2 ran.0,
@@ -46,11 +46,11 @@ loop-i-preserved-in-Repeated c =
     )
 
 pub overflow_mul-groups : goal.overflow_mul-groups
-overflow_mul-groups c = omega (arith, read_packed _ _ _ _ c.in_ok-run.ensures c.in-Packed.is)
+overflow_mul-groups c = omega (arith, found_packed _ _ _ _ c.found_at.ensures c.in-Packed.is)
 
 pub some_packed-large-requires : goal.some_packed-large-requires
 some_packed-large-requires c =
-    let ran = read_packed _ _ _ _ c.in_ok-run.ensures c.in-Packed.is in (
+    let ran = found_packed _ _ _ _ c.found_at.ensures c.in-Packed.is in (
       search rules,
       omega arith,
       search rules,
@@ -60,18 +60,18 @@ some_packed-large-requires c =
     )
 
 pub overflow_mul-i : goal.overflow_mul-i
-overflow_mul-i c = omega (arith, read_packed _ _ _ _ c.in_ok-run.ensures c.in-Packed.is)
+overflow_mul-i c = omega (arith, found_packed _ _ _ _ c.found_at.ensures c.in-Packed.is)
 
 pub overflow_add-i-in-Packed : goal.overflow_add-i-in-Packed
-overflow_add-i-in-Packed c = omega (arith, read_packed _ _ _ _ c.in_ok-run.ensures c.in-Packed.is)
+overflow_add-i-in-Packed c = omega (arith, found_packed _ _ _ _ c.found_at.ensures c.in-Packed.is)
 
 pub loop-i-smaller : goal.loop-i-smaller
-loop-i-smaller c = omega (arith, read_packed _ _ _ _ c.in_ok-run.ensures c.in-Packed.is)
+loop-i-smaller c = omega (arith, found_packed _ _ _ _ c.found_at.ensures c.in-Packed.is)
 
 pub loop-i-preserved : goal.loop-i-preserved
 loop-i-preserved c =
     let a = c.args in
-    let ran = read_packed _ _ _ _ c.in_ok-run.ensures c.in-Packed.is in (
+    let ran = found_packed _ _ _ _ c.found_at.ensures c.in-Packed.is in (
       omega arith,
       search rules,
       judging-packed a.w a.n a.page.now (omega arith) c.loop-i.invariant.2 ran.0,
@@ -79,12 +79,12 @@ loop-i-preserved c =
           c.min.ensures (ap (λ (t : Bool). c.loop-i.large || t) c.some_packed-large.ensures),
     )
 
-pub returns-in_err-run : goal.returns-in_err-run
-returns-in_err-run c =
+pub returns-in-Refused : goal.returns-in-Refused
+returns-in-Refused c =
     let a = c.args in
-    rw (passed_up _ _ c.from_residual.ensures)
-    (sym
-    (judging-refused a.w a.n a.page.now (search rules) c.loop-i.invariant.2 _ (sym c.in_err-run.ensures)))
+    sym
+    (judging-refused a.w a.n a.page.now (search rules) c.loop-i.invariant.2 _
+    (sym c.found_at.ensures ∙ ap found_of c.in-Refused.is))
 
 pub returns-then-at-page : goal.returns-then-at-page
 returns-then-at-page c =

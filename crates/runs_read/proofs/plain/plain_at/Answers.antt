@@ -69,4 +69,4 @@ returns-else-h-eq0 c =
     let page = c.args.page.now in
     by_header _ _ _ _ (sym c.header_at-header.ensures ∙ c.in-Read.is) _
     (rw (ne_eqb (c.in-Read.h / 2) 0 (λ none. omega arith), ne_eqb _ _ c.if-h-eq0.false)
-    (c.packed_at.ensures page (sym (part_rest page c.in-Read.next))))
+    (c.from.ensures ∙ c.packed_at.ensures page (sym (part_rest page c.in-Read.next))))
