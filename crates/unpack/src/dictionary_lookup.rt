@@ -8,6 +8,7 @@ ghost use Rattle.runs_walk.specs.Placed.{places, places-values, placed};
 use dictionary_scan::values::value_any;
 use packed_entries::unpacking::unpack;
 use runs_walk::walking::{RunWriting, write_runs};
+use words::filling::fill;
 
 // The values of the first m indexes of a list, into the first m places.
 fn look_up(dict: &[u8], indexes: &[u32], m: usize, places: &mut [i32])
@@ -62,7 +63,7 @@ impl<'a> RunWriting for Values<'a> {
     ghost of_values = { λ values. places-values (value values.dict.now) };
 
     fn write_same(self, index: u32, m: usize, entries: &mut [i32], i: usize) {
-        entries[i..i + m].fill(value_any(self.dict, index));
+        fill(&mut entries[i..i + m], value_any(self.dict, index));
     }
 
     fn write_packed(

@@ -4,6 +4,7 @@ ghost use Rattle.runs_walk.specs.Placed.{places, places-values, placed};
 
 use packed_entries::unpacking::unpack;
 use runs_walk::walking::{RunWriting, write_runs};
+use words::filling::fill;
 
 // Into the places of the entries, as they are.
 #[derive(Clone, Copy)]
@@ -21,7 +22,7 @@ impl RunWriting for Places {
     ghost of_values = { λ _. places-values (λ x. x) };
 
     fn write_same(self, value: u32, m: usize, entries: &mut [u32], i: usize) {
-        entries[i..i + m].fill(value);
+        fill(&mut entries[i..i + m], value);
     }
 
     fn write_packed(

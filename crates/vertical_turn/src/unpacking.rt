@@ -5,6 +5,7 @@ ghost use Rattle.rules.specs.Vertical.{lane};
 ghost use Rattle.vertical_turn.specs.Rows.{behind, grown, grown_row};
 
 use crate::turning::turn;
+use words::filling::fill;
 
 // The n places from `from` on: place i takes a byte of word i behind what it holds.
 fn row(words: &[u64], from: usize, n: usize, entries: &mut [u32])
@@ -33,7 +34,8 @@ fn rows(words: &[u64], m: usize, entries: &mut [u32])
     row(words, m / 8 * 8, m % 8, entries);
 }
 
-// What the n planes from plane `at` on add to each entry.
+// What the n planes from plane `at` on add to each entry. Eight planes have a copy of their own.
+#[inline(always)]
 fn add_planes(planes: &[u64], at: usize, n: usize, m: usize, entries: &mut [u32])
     requires { (at + n ≤ length planes.now) × (n ≤ 8) × (m ≤ 64) × (m ≤ length entries.old) }
     ensures { entries.new
@@ -51,7 +53,7 @@ fn clear(m: usize, entries: &mut [u32])
     requires { m ≤ length entries.old }
     ensures { entries.new ≡ put entries.old 0 (tabulate m (λ j. 0)) }
 {
-    entries[..m].fill(0);
+    fill(&mut entries[..m], 0);
 }
 
 // The first m entries of a group's planes, into the first m places. First come the planes that are left over

@@ -15,5 +15,5 @@ returns c =
     let a = c.args in
     let size : length (take a.m a.entries.now) ≡ a.m = length-take-le a.m a.entries.now (omega arith) in
     let none : tabulate {A = ℕ} a.m (λ j. 0) ≡ replicate a.m 0 = tabulate-same {A = ℕ} a.m (λ j. 0) 0 (λ i h. refl) in
-    let filled : c.fill.new.self ≡ replicate a.m 0 = rw size at (c.fill.ensures.after (λ y e. e)) in
+    let filled : c.fill.new.places ≡ replicate a.m 0 = rw size at c.fill.ensures in
     rw (none, filled, length-replicate {A = ℕ} a.m 0, zero-add a.m) refl

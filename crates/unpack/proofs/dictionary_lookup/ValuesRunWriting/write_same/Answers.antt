@@ -11,7 +11,7 @@ pub returns : goal.returns
 returns c =
     let v = c.value_any in
     let a = c.args in
-    filled a.entries.now c.fill.new.self a.i _ _ a.m _ (c.fill.ensures.after (search rules))
+    filled a.entries.now c.fill.new.places a.i _ _ a.m _ c.fill.ensures
     (search rules) (omega arith)
     ∙ ap (λ (x : ℤ). put a.entries.now a.i (tabulate a.m (λ _. x)))
     (to_z-of_z w32 v.result (record { sfits = v.type_inv }) ∙ v.ensures)

@@ -6,5 +6,5 @@ use Rattle.unpack.proofs.runs_placing.PlacesRunWriting.write_same.Goals as goal
 pub returns : goal.returns
 returns c =
     let a = c.args in
-    filled a.entries.now c.fill.new.self a.i _ _ a.m a.value (c.fill.ensures.after (search rules))
+    filled a.entries.now c.fill.new.places a.i _ _ a.m a.value c.fill.ensures
     (search rules) (omega arith)
