@@ -11,7 +11,7 @@ use delta_octets::writing::Writing;
 
 // k entries from `from` on, by the body of a miniblock, as the entries from i on; gives the entry after
 // them.
-fn write_mini<T: Writing>(
+pub fn write_mini<T: Writing>(
     writing: T,
     body: &[u8],
     w: u32,

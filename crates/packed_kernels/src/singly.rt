@@ -51,7 +51,7 @@ impl Single for Whole {
 }
 
 // Whether an entry lies from low to low + span: 1 or 0.
-fn inside_bit(x: u32, low: u32, span: u32) -> u8
+pub fn inside_bit(x: u32, low: u32, span: u32) -> u8
     requires { Bounded low span }
     ensures told { result ≡ flag (inside low (low + span) x) }
     ensures small { result < 2 }
