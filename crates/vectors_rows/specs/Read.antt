@@ -1,10 +1,7 @@
 -- An answer that is as published, and how it is told.
 use Rattle.std.specs.Prelude.{◌≡◌, Bool, ◌&&◌, List, eqb, length, take}
 use Rattle.std.specs.Bool.{Decides}
-use Rattle.std.specs.List.{starts_with}
-use Rattle.std.proofs.Common.{sym}
 use Rattle.std.proofs.lemmas.Bool.Decides.{Decides-eqb, Decides-like, Decides-and}
-use Rattle.std.proofs.lemmas.Slice.Eq.{slice_eq-Decides}
 use Rattle.rules.specs.declared.Answer.{Answer}
 
 -- a list begins with another
@@ -14,11 +11,6 @@ Begins list front = take (length front) list ≡ front
 -- as many entries were read as were published, and the places begin with these
 abbrev pub Read : {A : Type 0} → Answer → List A → List A → Type 0
 Read answer places entries = (answer.code ≡ 0) × (answer.number ≡ length entries) × Begins places entries
-
-pub decides_begins : {A : Type 0} {E : A → A → Bool} → ((x y : A) → Decides (E x y) (x ≡ y))
-    → (list front : List A) (begun : Bool) → begun ≡ starts_with E list front → Decides begun (Begins list front)
-decides_begins exact list front begun is =
-    Decides-like begun sym sym (slice_eq-Decides exact front (take (length front) list) begun is)
 
 -- what is told, by its three tests
 pub decides_read : {A : Type 0} (answer : Answer) (places entries : List A) (counted begun : Bool)

@@ -93,5 +93,13 @@ pub fn read<T: Entry>(
 fn begins<T: Entry>(list: &[T], front: &[T]) -> bool
     ensures { Decides result (Begins list.now front.now) }
 {
-    list.starts_with(front)
+    if list.len() < front.len() {
+        return false;
+    }
+    for (i, entry) in front.iter().enumerate() {
+        if list[i] != *entry {
+            return false;
+        }
+    }
+    true
 }
